@@ -1,6 +1,6 @@
 -- Laws of big-endian numbers at any width: the number that bytes say and the bytes of a number are each other's inverse, in one part or in two.
 -- By induction over the bytes or the width, each step one digit to the base 256; a wider reader or writer in code cites these over two narrower ones.
-use mathlib.Core.Path.{_≡_, refl, sym, ap, _∙_}
+use mathlib.Core.Path.{_≡_, refl, ap, _∙_}
 use mathlib.Core.List.{List, [], _∷_, _++_}
 use Prim.Native.Nat.{ℕ, zero, suc, _+_, _*_, _/_, _%_, _^_, _<_}
 use native.Mathlib.Nat.{pow-succ', mod-lt, div-add-mod', mod-eq-of-lt, div-div-eq-div-mul, div-lt-iff-lt-mul, mul-comm, mul-assoc, add-mul, add-assoc, zero-add, suc-add}

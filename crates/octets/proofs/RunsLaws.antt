@@ -1,6 +1,6 @@
 -- Laws of runs of a list: what is read after a store, stores in a row, a list cut into pieces and put together again, and that bytes stay bytes.
 -- By induction over the run that is read or stored, or over the number of pieces; bounds are left to `omega`.
-use mathlib.Core.Path.{_≡_, refl, sym, ap, _∙_}
+use mathlib.Core.Path.{_≡_, refl, ap, _∙_}
 use mathlib.Core.List.{List, [], _∷_, _++_, map, flatMap, append-assoc, List·Mem, not-mem-nil, forall-mem-cons, mem-cons-self, mem-cons-of-mem}
 use Prim.Native.Nat.{ℕ, zero, suc, _+_, _*_, _-_, _≤_, _<_}
 use native.Mathlib.Nat.{add-zero, add-suc, suc-add, zero-add, add-comm, mul-zero, mul-suc, mul-le-mul-left, ℕ-set}
