@@ -1,0 +1,48 @@
+-- A property of each element of a list, with its evidence: from a test of every element, over the pieces of a list of bytes, and to maps that agree.
+-- Each goes by the list.
+use mathlib.Core.Path.{_≡_, refl, ap, _∙_}
+use mathlib.Core.Bool.{Bool, true, _&&_}
+use mathlib.Core.List.{List, [], _∷_, _++_, map, flatMap}
+use Prim.Native.Nat.{ℕ, zero, suc, _+_, _*_, _≤_, _<_}
+use native.Mathlib.Omega.{arith}
+use lib.ListN.{length, take, drop, getD, length-append, length-take, length-drop}
+use lib.Seq.{getD-take, getD-drop, length-take-le}
+use Rattle.octets.specs.Runs.{Bytes, pieces}
+use Rattle.rules.specs.Lists.{every}
+use Rattle.rules.proofs.ListsLaws.{both, and-true}
+
+pub data All {A : Type 0} (P : A → Type 0) : List A → Type 0 where
+  none : All P []
+  more : {x : A} {xs : List A} → P x → All P xs → All P (x ∷ xs)
+
+pub all-every : {A : Type 0} (f : A → Bool) (xs : List A) → every f xs ≡ true → All (λ x. f x ≡ true) xs
+unfolding every
+all-every f [] e = none
+all-every f (x ∷ xs) e = let h = both (f x) (every f xs) e in more (h .0) (all-every f xs (h .1))
+
+pub every-all : {A : Type 0} (f : A → Bool) {xs : List A} → All (λ x. f x ≡ true) xs → every f xs ≡ true
+unfolding every
+every-all f none = refl
+every-all f (more {x} {xs} p ps) = and-true (f x) (every f xs) p (every-all f ps)
+
+pub all-imply : {A : Type 0} {P Q : A → Type 0} → ((x : A) → P x → Q x) → {xs : List A} → All P xs → All Q xs
+all-imply k none = none
+all-imply k (more {x} p ps) = more (k x p) (all-imply k ps)
+
+pub all-both : {A : Type 0} {P Q : A → Type 0} {xs : List A} → All P xs → All Q xs → All (λ x. P x × Q x) xs
+all-both none none = none
+all-both (more p ps) (more q qs) = more (p, q) (all-both ps qs)
+
+pub all-map : {A B : Type 0} (P : B → Type 0) (f : A → B) {xs : List A} → All (λ x. P (f x)) xs → All P (map f xs)
+all-map P f none = none
+all-map P f (more p ps) = more p (all-map P f ps)
+
+-- maps that agree on each element
+pub map-all : {A B : Type 0} (f g : A → B) {xs : List A} → All (λ x. f x ≡ g x) xs → map f xs ≡ map g xs
+map-all f g none = refl
+map-all f g (more p ps) = rw (p, map-all f g ps)
+
+pub flatMap-all : {A B : Type 0} (f g : A → List B) {xs : List A} → All (λ x. f x ≡ g x) xs → flatMap f xs ≡ flatMap g xs
+unfolding flatMap
+flatMap-all f g none = refl
+flatMap-all f g (more p ps) = rw (p, flatMap-all f g ps)

@@ -1,0 +1,61 @@
+-- Laws of the words for lists, and of tests joined by `&&`, `||` and `cond`.
+-- Each goes by the list, or by the truth of one test.
+use mathlib.Core.Path.{_≡_, refl, sym, ap, _∙_}
+use mathlib.Core.Bool.{Bool, true, false, cond, not, _&&_, _||_, false≢true}
+use mathlib.Core.List.{List, [], _∷_, _++_, map, flatMap}
+use Prim.Native.Nat.{ℕ, zero, suc, _+_, _≤_, _<_}
+use native.Mathlib.Omega.{arith}
+use lib.ListN.{length, length-append, replicate}
+use borrow.Author.Tests.{eqb-true, eq-eqb}
+use lib.Dec.{eqb}
+use Rattle.rules.specs.Lists.{every, any, those, zeros, oneOf}
+
+-- ---- tests
+
+pub both : (a b : Bool) → a && b ≡ true → (a ≡ true) × (b ≡ true)
+both true b e = (refl, e)
+both false b e = absurd (false≢true e)
+
+pub and-true : (a b : Bool) → a ≡ true → b ≡ true → a && b ≡ true
+and-true a b p q = rw (p, q)
+
+pub cond-cases : {A B : Type 0} (f : A → B) (b : Bool) (x y : A) → f (cond b x y) ≡ cond b (f x) (f y)
+cond-cases f true x y = refl
+cond-cases f false x y = refl
+
+-- what holds of both answers to a test holds of the answer
+pub cond-either : {A : Type 0} (P : A → Type 0) (b : Bool) (x y : A) → (b ≡ true → P x) → (b ≡ false → P y) → P (cond b x y)
+cond-either P true x y p q = p refl
+cond-either P false x y p q = q refl
+
+-- ---- every
+
+pub every-append : {A : Type 0} (f : A → Bool) (xs ys : List A) → every f xs ≡ true → every f ys ≡ true → every f (xs ++ ys) ≡ true
+unfolding every
+every-append f [] ys p q = q
+every-append f (x ∷ xs) ys p q =
+    let h = both (f x) (every f xs) p in
+    and-true (f x) (every f (xs ++ ys)) (h .0) (every-append f xs ys (h .1) q)
+
+-- what f makes of each: every result is fine if every origin gives fine ones only
+pub every-flatMap : {A B : Type 0} (f : A → List B) (g : A → Bool) (h : B → Bool) (xs : List A) → ((x : A) → g x ≡ true → every h (f x) ≡ true) → every g xs ≡ true
+    → every h (flatMap f xs) ≡ true
+unfolding every flatMap
+every-flatMap f g h [] k p = refl
+every-flatMap f g h (x ∷ xs) k p =
+    let s = both (g x) (every g xs) p in
+    every-append h (f x) (flatMap f xs) (k x (s .0)) (every-flatMap f g h xs k (s .1))
+
+-- zeros are a run of 0
+pub zeros-replicate : (xs : List ℕ) → zeros xs ≡ true → xs ≡ replicate (length xs) 0
+unfolding zeros every
+zeros-replicate [] p = refl
+zeros-replicate (x ∷ xs) p =
+    let h = both (eqb x 0) (every (λ y. eqb y 0) xs) p in
+    let e : x ≡ 0 = eqb-true x 0 (h .0) in
+    rw (e, ← zeros-replicate xs (h .1))
+
+pub replicate-zeros : (n : ℕ) → zeros (replicate n 0) ≡ true
+unfolding zeros every
+replicate-zeros zero = refl
+replicate-zeros (suc n) = replicate-zeros n

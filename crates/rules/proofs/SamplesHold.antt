@@ -1,0 +1,25 @@
+-- Document 01's samples hold: P1 to P13 as one table of rows, and the program's example.
+-- Each is computed: both sides are the same bytes.
+use mathlib.Core.Path.{refl}
+use mathlib.Core.List.{flatMap}
+use Rattle.octets.specs.Runs.{gets, pieces}
+use Rattle.octets.specs.Numbers.{be, toBe}
+use Rattle.octets.specs.Fields.{size, numbers, bytesOf, filled}
+use Rattle.rules.specs.Lists.{every, any, those, zeros, oneOf, above, ascending}
+use Rattle.rules.specs.Layout.{field}
+use Rattle.rules.specs.Table.{headOf, headNumbers, headBytes, legalHead, placeOf, placeNumbers, placeBytes, isFree, isLive, liveFirst, placesOf, legalPlace, isText, running, different, legalPlaces, cellOf, placesBytes, cellBytes, legalCell, cellsOf, headerBytes, tableBytes, tableMarked, legalTable}
+use Rattle.rules.specs.Record.{requestOf, itemsOf, recordMarked, row, kindAllows, areaFits, withinLimits, cancelsNothing}
+use Rattle.rules.specs.Reach.{names, reaches}
+use Rattle.rules.specs.InCell.{reportedIfLive, startsNothing, newPlace, start, cancel, restart, failure, isDue, oneMore, withCounts, later, hasEnded, staysLive, second, inCell}
+use Rattle.rules.specs.Answer.{rowBytes, answerBytes, roomFor}
+use Rattle.rules.specs.Refusals.{tableVerdict, requestVerdict, recordVerdict, applyVerdict, legalHeads, buildVerdict}
+use Rattle.rules.specs.Applied.{fill, emptyCell, built, stepCell, cellRows, outcome, applied}
+use Rattle.rules.specs.Samples.{samples, AllHold, ExampleHolds}
+
+pub samples-hold : AllHold samples
+unfolding flatMap gets pieces be toBe size numbers bytesOf filled every any those zeros oneOf above ascending field headOf headNumbers headBytes legalHead placeOf placeNumbers placeBytes isFree isLive liveFirst placesOf legalPlace isText running different legalPlaces cellOf placesBytes cellBytes legalCell cellsOf headerBytes tableBytes tableMarked legalTable requestOf itemsOf recordMarked row kindAllows areaFits withinLimits cancelsNothing names reaches reportedIfLive startsNothing newPlace start cancel restart failure isDue oneMore withCounts later hasEnded staysLive second inCell rowBytes answerBytes roomFor tableVerdict requestVerdict recordVerdict applyVerdict stepCell cellRows outcome applied
+samples-hold = (refl, (refl, (refl, (refl, (refl, (refl, (refl, (refl, (refl, (refl, (refl, (refl, (refl, (refl, tt))))))))))))))
+
+pub example-holds : ExampleHolds
+unfolding flatMap gets pieces be toBe size numbers bytesOf filled every any those zeros oneOf above ascending field headOf headNumbers headBytes legalHead placeOf placeNumbers placeBytes isFree isLive liveFirst placesOf legalPlace isText running different legalPlaces cellOf placesBytes cellBytes legalCell cellsOf headerBytes tableBytes tableMarked legalTable requestOf itemsOf recordMarked row kindAllows areaFits withinLimits cancelsNothing names reaches reportedIfLive startsNothing newPlace start cancel restart failure isDue oneMore withCounts later hasEnded staysLive second inCell rowBytes answerBytes roomFor tableVerdict requestVerdict recordVerdict applyVerdict stepCell cellRows outcome applied legalHeads buildVerdict fill emptyCell built
+example-holds = record { builds = refl; runs = refl }

@@ -1,0 +1,101 @@
+-- What each entry point leaves behind, whole: the number, the length and every byte of every lent buffer.
+use mathlib.Core.Bool.{cond}
+use mathlib.Core.List.{List, [], _∷_, map, flatMap}
+use Prim.Native.Nat.{ℕ}
+use lib.ListN.{length}
+use lib.Seq.{sets}
+use Rattle.rules.specs.Table.{Cell, headOf, cellsOf, tableBytes}
+use Rattle.rules.specs.Record.{requestOf, itemCount, itemsOf, recordBytes}
+use Rattle.rules.specs.Reach.{reaches}
+use Rattle.rules.specs.InCell.{Told, inCell}
+use Rattle.rules.specs.Answer.{Row, answerBytes}
+use Rattle.rules.specs.Refusals.{numberOf, headRuns, recordVerdict, writeVerdict, applyVerdict, buildVerdict}
+use Rattle.rules.specs.declared.Request.{Request}
+use Rattle.rules.specs.declared.Verdict.{Verdict}
+use Rattle.rules.specs.declared.Verdict.the-variants.{Accepted, Refused}
+
+-- ---- one buffer is filled: by the builder and by the record writer
+
+pub record Filled : Type 0 where
+  pub number : ℕ
+  pub length : ℕ
+  pub buffer : List ℕ
+
+-- accepted: the bytes at the start of the buffer, and what is behind them stays; refused: nothing is written
+unfoldable pub fill : Verdict → List ℕ → List ℕ → Filled
+fill Accepted bs buffer = record { number = 0; length = length bs; buffer = sets buffer 0 bs }
+fill (Refused x) bs buffer = record { number = numberOf x; length = 0; buffer = buffer }
+
+unfoldable pub emptyCell : List ℕ → Cell
+emptyCell b = record { head = headOf b; places = [] }
+
+-- "from cell heads back to back .. an empty table"
+unfoldable pub built : List ℕ → List ℕ → Filled
+built heads buffer = fill (buildVerdict heads (length buffer)) (tableBytes (map emptyCell (headRuns heads))) buffer
+
+unfoldable pub written : Request → List ℕ → List ℕ → Filled
+written q items buffer = fill (writeVerdict q items (length buffer)) (recordBytes q items) buffer
+
+-- ---- a record is read
+
+pub record Reading : Type 0 where
+  pub number : ℕ
+  pub request : Request
+  pub items : ℕ
+
+unfoldable pub noRequest : Request
+noRequest =
+    record {
+      kind = 0;
+      flags = 0;
+      area = 0;
+      identifier = 0;
+      serial = 0;
+      content = 0;
+      period = record { 0 = 0 };
+      requested = record { 0 = 0 };
+      sib = 0;
+    }
+
+-- the fields and the count of items; all 0 if refused
+unfoldable pub reading : Verdict → List ℕ → Reading
+reading Accepted r = record { number = 0; request = requestOf r; items = itemCount r }
+reading (Refused x) r = record { number = numberOf x; request = noRequest; items = 0 }
+
+unfoldable pub readOf : List ℕ → Reading
+readOf r = reading (recordVerdict r) r
+
+-- ---- a request is applied
+
+-- a reached cell is changed by its kind's rule, any other stays
+unfoldable pub stepCell : Request → List ℕ → Cell → Cell
+stepCell q items c =
+    cond (reaches (q .area) items (c .head)) (record { head = c .head; places = inCell q (c .places) .places }) c
+
+abbrev pub rowOf : Cell → Told → Row
+rowOf c x = record { identity = c .head .identity; count = x .count; content = x .content }
+
+-- and only a reached cell is reported
+unfoldable pub cellRows : Request → List ℕ → Cell → List Row
+cellRows q items c = cond (reaches (q .area) items (c .head)) (map (rowOf c) (inCell q (c .places) .rows)) []
+
+pub record Outcome : Type 0 where
+  pub number : ℕ
+  pub length : ℕ
+  pub table : List ℕ
+  pub answer : List ℕ
+
+-- refused: both buffers as they were; accepted: the cells after the rule, and the answer at the start of its buffer
+unfoldable pub outcome : Verdict → Request → List ℕ → List ℕ → List ℕ → Outcome
+outcome (Refused x) q items t a = record { number = numberOf x; length = 0; table = t; answer = a }
+outcome Accepted q items t a =
+    let bs = answerBytes q (flatMap (cellRows q items) (cellsOf t)) in
+    record {
+      number = 0;
+      length = length bs;
+      table = tableBytes (map (stepCell q items) (cellsOf t));
+      answer = sets a 0 bs;
+    }
+
+unfoldable pub applied : List ℕ → List ℕ → List ℕ → Outcome
+applied t r a = outcome (applyVerdict t r (length a)) (requestOf r) (itemsOf r) t a

@@ -1,0 +1,120 @@
+-- Every width, size, limit and mark of document 01, once. A layout is the list of its fields' widths, in order; offsets follow from it.
+use mathlib.Core.List.{List, [], _∷_}
+use Prim.Native.Nat.{ℕ, _+_, _*_, _^_}
+use lib.ListN.{getD}
+use Rattle.octets.specs.Numbers.{be}
+use Rattle.octets.specs.Fields.{size, numbers}
+
+-- the number in field k
+unfoldable pub field : List ℕ → ℕ → List ℕ → ℕ
+field ws k l = getD (numbers ws l) k 0
+
+-- ---- the table
+
+-- "PWT"; version; number of cells; places per cell; zero
+abbrev pub headerFields : List ℕ
+headerFields = 3 ∷ 2 ∷ 2 ∷ 1 ∷ 8 ∷ []
+
+-- NR CGI; tracking area code; number of emergency areas; four emergency area identifiers
+abbrev pub headFields : List ℕ
+headFields = 8 ∷ 3 ∷ 1 ∷ 3 ∷ 3 ∷ 3 ∷ 3 ∷ []
+
+-- message identifier; serial number; content; period; requested; sent; wait; SIB kind; live; zero
+abbrev pub placeFields : List ℕ
+placeFields = 2 ∷ 2 ∷ 4 ∷ 2 ∷ 2 ∷ 2 ∷ 2 ∷ 1 ∷ 1 ∷ 2 ∷ []
+
+abbrev pub placesPerCell : ℕ
+placesPerCell = 4
+
+abbrev pub mostAreas : ℕ
+mostAreas = 4
+
+abbrev pub headerSize : ℕ
+headerSize = 16
+
+abbrev pub headSize : ℕ
+headSize = 24
+
+abbrev pub placeSize : ℕ
+placeSize = 20
+
+abbrev pub cellSize : ℕ
+cellSize = headSize + placesPerCell * placeSize
+
+-- "PWT"
+abbrev pub tableMark : ℕ
+tableMark = 0x505754
+
+abbrev pub tableVersion : ℕ
+tableVersion = 1
+
+abbrev pub mostCells : ℕ
+mostCells = 512
+
+abbrev pub longestPeriod : ℕ
+longestPeriod = 4095
+
+-- a count of broadcasts stays here
+abbrev pub mostSent : ℕ
+mostSent = 65535
+
+abbrev pub firstSib : ℕ
+firstSib = 6
+
+abbrev pub lastSib : ℕ
+lastSib = 8
+
+-- ---- the request record
+
+-- "PWR"; version; kind; flags; area; message identifier; serial number; content; period; requested; SIB kind; zero; item count
+abbrev pub recordFields : List ℕ
+recordFields = 3 ∷ 2 ∷ 1 ∷ 1 ∷ 1 ∷ 2 ∷ 2 ∷ 4 ∷ 4 ∷ 2 ∷ 1 ∷ 1 ∷ 2 ∷ []
+
+abbrev pub recordSize : ℕ
+recordSize = 26
+
+abbrev pub itemSize : ℕ
+itemSize = 8
+
+-- "PWR"
+abbrev pub recordMark : ℕ
+recordMark = 0x505752
+
+abbrev pub recordVersion : ℕ
+recordVersion = 1
+
+abbrev pub mostItems : ℕ
+mostItems = 512
+
+-- what an item, by its area, stays below
+abbrev pub cellEnd : ℕ
+cellEnd = 2 ^ 60
+
+abbrev pub trackingEnd : ℕ
+trackingEnd = 2 ^ 48
+
+abbrev pub emergencyEnd : ℕ
+emergencyEnd = 2 ^ 24
+
+-- ---- the answer
+
+-- "PWA"; version; kind; message identifier; serial number; number of rows
+abbrev pub answerFields : List ℕ
+answerFields = 3 ∷ 2 ∷ 1 ∷ 2 ∷ 2 ∷ 2 ∷ []
+
+-- NR CGI; count; content
+abbrev pub rowFields : List ℕ
+rowFields = 8 ∷ 2 ∷ 4 ∷ []
+
+abbrev pub answerSize : ℕ
+answerSize = 12
+
+abbrev pub rowSize : ℕ
+rowSize = 14
+
+-- "PWA"
+abbrev pub answerMark : ℕ
+answerMark = 0x505741
+
+abbrev pub answerVersion : ℕ
+answerVersion = 1

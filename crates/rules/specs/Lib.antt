@@ -1,0 +1,12 @@
+pub mod Lists
+pub mod Layout
+pub mod Identity
+pub mod Table
+pub mod Record
+pub mod Reach
+pub mod InCell
+pub mod Answer
+pub mod Refusals
+pub mod Applied
+pub mod Sound
+pub mod Samples

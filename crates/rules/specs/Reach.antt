@@ -1,0 +1,19 @@
+-- Document 01, "Which cells a request reaches".
+use mathlib.Core.Bool.{Bool, true, cond}
+use mathlib.Core.List.{List}
+use Prim.Native.Nat.{ℕ}
+use lib.Dec.{eqb}
+use Rattle.rules.specs.Lists.{any, oneOf}
+use Rattle.rules.specs.Identity.{trackingItem}
+use Rattle.rules.specs.Table.{Head}
+use Rattle.rules.specs.Record.{noArea, cellArea, trackingArea}
+
+-- whether an item names a cell: by its NR CGI; by its PLMN and code; by one of its emergency areas in use
+unfoldable pub names : ℕ → Head → ℕ → Bool
+names area h item =
+    cond (eqb area cellArea) (eqb item (h .identity))
+    (cond (eqb area trackingArea) (eqb item (trackingItem (h .identity) (h .code))) (oneOf item (h .areas)))
+
+-- every cell without an area, else those that some item names
+unfoldable pub reaches : ℕ → List ℕ → Head → Bool
+reaches area items h = cond (eqb area noArea) true (any (names area h) items)

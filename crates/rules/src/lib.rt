@@ -1,0 +1,162 @@
+// Document 01's types. What they mean, and every rule about them, stands in specs/.
+ghost use mathlib.Core.Path.{_≡_};
+ghost use Rattle.rules.specs.Identity.{identityAnswer, plmnOf, partOf, trackingItem};
+ghost use Rattle.rules.specs.Refusals.{numberOf, verdictNumber, answerNumber, answerLength};
+
+// "A count of seconds never stands where a count of broadcasts is meant": each has a type of its own.
+pub struct Seconds(pub u32);
+
+pub struct Broadcasts(pub u16);
+
+// A live place of a cell.
+pub struct Place {
+    pub identifier: u16,
+    pub serial: u16,
+    pub content: u32,
+    pub period: Seconds,
+    pub requested: Broadcasts,
+    pub sent: Broadcasts,
+    pub wait: Seconds,
+    pub sib: u8,
+}
+
+// A request without its items: what the reader returns of a record, and what the writer takes.
+pub struct Request {
+    pub kind: u8,
+    pub flags: u8,
+    pub area: u8,
+    pub identifier: u16,
+    pub serial: u16,
+    pub content: u32,
+    pub period: Seconds,
+    pub requested: Broadcasts,
+    pub sib: u8,
+}
+
+// Document 01's numbered refusals, in its order.
+pub enum Refusal {
+    TableMark,
+    TableWrong,
+    RecordMark,
+    RecordLength,
+    RecordFields,
+    RecordLimits,
+    CancelsNothing,
+    ShortBuffer,
+    BadHeads,
+}
+
+impl Refusal {
+    pub fn number(self) -> u32
+        ensures { λ r. ⌜ r ≡ numberOf self ⌝ }
+    {
+        match self {
+            Refusal::TableMark => 1,
+            Refusal::TableWrong => 2,
+            Refusal::RecordMark => 3,
+            Refusal::RecordLength => 4,
+            Refusal::RecordFields => 5,
+            Refusal::RecordLimits => 6,
+            Refusal::CancelsNothing => 7,
+            Refusal::ShortBuffer => 8,
+            Refusal::BadHeads => 9,
+        }
+    }
+}
+
+// What a judge says.
+pub enum Verdict {
+    Accepted,
+    Refused(Refusal),
+}
+
+impl Verdict {
+    pub fn number(self) -> u32
+        ensures { λ r. ⌜ r ≡ verdictNumber self ⌝ }
+    {
+        match self {
+            Verdict::Accepted => 0,
+            Verdict::Refused(refusal) => refusal.number(),
+        }
+    }
+}
+
+// What whoever fills a buffer answers: the length written, or why nothing was.
+pub enum Answer {
+    Written(usize),
+    Nothing(Refusal),
+}
+
+impl Answer {
+    pub fn number(self) -> u32
+        ensures { λ r. ⌜ r ≡ answerNumber self ⌝ }
+    {
+        match self {
+            Answer::Written(_) => 0,
+            Answer::Nothing(refusal) => refusal.number(),
+        }
+    }
+
+    pub fn length(self) -> usize
+        ensures { λ r. ⌜ r ≡ answerLength self ⌝ }
+    {
+        match self {
+            Answer::Written(bytes) => bytes,
+            Answer::Nothing(_) => 0,
+        }
+    }
+}
+
+// NR CGI: a 24-bit PLMN, then 36 bits.
+pub struct CellIdentity(pub u64);
+
+// The answer to a PLMN and a part that are to make an identity.
+pub enum MadeIdentity {
+    Identity(CellIdentity),
+    TooLarge,
+}
+
+impl CellIdentity {
+    pub const PLMN_BITS: u32 = 24;
+
+    pub const PART_BITS: u32 = 36;
+
+    pub const LARGEST: u64 = (1 << (CellIdentity::PLMN_BITS + CellIdentity::PART_BITS)) - 1;
+
+    pub fn new(plmn: u32, part: u64) -> MadeIdentity
+        ensures { λ r. ⌜ r ≡ identityAnswer plmn part ⌝ }
+    {
+        if PLMN_END <= plmn {
+            return MadeIdentity::TooLarge;
+        }
+        if PART_END <= part {
+            return MadeIdentity::TooLarge;
+        }
+        MadeIdentity::Identity(CellIdentity((plmn as u64) * PART_END + part))
+    }
+
+    pub fn plmn(self) -> u32
+        ensures { λ r. ⌜ r ≡ plmnOf (self .0) ⌝ }
+    {
+        (self.0 / PART_END) as u32
+    }
+
+    pub fn part(self) -> u64
+        ensures { λ r. ⌜ r ≡ partOf (self .0) ⌝ }
+    {
+        self.0 % PART_END
+    }
+
+    // The item that names a tracking area: the cell's PLMN, then the code.
+    pub fn tracking_item(self, code: u32) -> u64
+        ensures { λ r. ⌜ r ≡ trackingItem (self .0) code ⌝ }
+    {
+        self.0 / PART_END * CODE_END + (code as u64)
+    }
+}
+
+const PLMN_END: u32 = 1 << CellIdentity::PLMN_BITS;
+
+const PART_END: u64 = 1 << CellIdentity::PART_BITS;
+
+const CODE_END: u64 = 1 << 24;
