@@ -1,3 +1,5 @@
 pub mod ListsLaws
 pub mod AllLaws
+pub mod LayoutLaws
+pub mod RecordCodec
 pub mod SamplesHold
