@@ -3,3 +3,4 @@ pub mod AllLaws
 pub mod LayoutLaws
 pub mod RecordCodec
 pub mod SamplesHold
+pub mod VerdictLaws

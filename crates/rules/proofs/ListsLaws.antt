@@ -59,3 +59,18 @@ pub replicate-zeros : (n : ℕ) → zeros (replicate n 0) ≡ true
 unfolding zeros every
 replicate-zeros zero = refl
 replicate-zeros (suc n) = replicate-zeros n
+
+-- ---- cases
+
+-- either way a test turns out
+pub by-test : {P : Type 0} (b : Bool) → (b ≡ true → P) → (b ≡ false → P) → P
+by-test true p q = p refl
+by-test false p q = q refl
+
+pub or-else : (a b : Bool) → a || b ≡ true → a ≡ false → b ≡ true
+or-else true b e n = absurd (false≢true (sym n))
+or-else false b e n = e
+
+pub else-or : (a b : Bool) → (a ≡ false → b ≡ true) → a || b ≡ true
+else-or true b k = refl
+else-or false b k = k refl
