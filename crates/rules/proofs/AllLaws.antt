@@ -3,11 +3,13 @@
 use mathlib.Core.Path.{_≡_, refl, ap, _∙_}
 use mathlib.Core.Bool.{Bool, true, _&&_}
 use mathlib.Core.List.{List, [], _∷_, _++_, map, flatMap}
-use Prim.Native.Nat.{ℕ, zero, suc, _+_, _*_, _≤_, _<_}
+use Prim.Native.Nat.{ℕ, zero, suc, _+_, _*_, _-_, _≤_, _<_}
+use native.Mathlib.Nat.{mul-suc}
 use native.Mathlib.Omega.{arith}
 use lib.ListN.{length, take, drop, getD, length-append, length-take, length-drop}
 use lib.Seq.{getD-take, getD-drop, length-take-le}
 use Rattle.octets.specs.Runs.{Bytes, pieces}
+use Rattle.octets.proofs.RunsLaws.{bytes-take, bytes-drop}
 use Rattle.rules.specs.Lists.{every}
 use Rattle.rules.proofs.ListsLaws.{both, and-true}
 
@@ -46,3 +48,12 @@ pub flatMap-all : {A B : Type 0} (f g : A → List B) {xs : List A} → All (λ 
 unfolding flatMap
 flatMap-all f g none = refl
 flatMap-all f g (more p ps) = rw (p, flatMap-all f g ps)
+
+-- the pieces of a list of bytes
+pub all-pieces : (w n : ℕ) (l : List ℕ) → Bytes l → w * n ≤ length l → All (λ p. Bytes p × (length p ≡ w)) (pieces w n l)
+unfolding pieces
+all-pieces w zero l b h = none
+all-pieces w (suc n) l b h =
+    let s : w * suc n ≡ w * n + w = mul-suc w n in
+    let d : length (drop w l) ≡ length l - w = length-drop w l in
+    more (bytes-take w l b, length-take-le w l (omega arith)) (all-pieces w n (drop w l) (bytes-drop w l b) (omega arith))

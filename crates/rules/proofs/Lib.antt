@@ -4,3 +4,4 @@ pub mod LayoutLaws
 pub mod RecordCodec
 pub mod SamplesHold
 pub mod VerdictLaws
+pub mod FitLaws
