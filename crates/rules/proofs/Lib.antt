@@ -2,6 +2,9 @@ pub mod ListsLaws
 pub mod AllLaws
 pub mod LayoutLaws
 pub mod RecordCodec
+pub mod RecordTrips
+pub mod OutcomeLaws
+pub mod RoundTrips
 pub mod SamplesHold
 pub mod VerdictLaws
 pub mod FitLaws

@@ -41,6 +41,11 @@ run-again w xs a rest =
     each none = refl
     each (more {x} h hs) = rw (be-toBe w x h, each hs)
 
+pub length-itemsOf : (r : List ℕ) → length (itemsOf r) ≡ itemCount r
+unfolding itemsOf
+length-itemsOf r =
+    length-map (pieces itemSize (itemCount r) (drop recordSize r)) be ∙ length-pieces itemSize (itemCount r) (drop recordSize r)
+
 -- ---- the head of a record
 
 module _ (r : List ℕ) (mark : field recordFields 0 r ≡ recordMark) (version : field recordFields 1 r ≡ recordVersion) (zero : zeroByte r ≡ 0) where
@@ -52,8 +57,7 @@ module _ (r : List ℕ) (mark : field recordFields 0 r ≡ recordMark) (version 
   pub record-back : Bytes r → length r ≡ recordSize + itemSize * itemCount r → recordBytes (requestOf r) (itemsOf r) ≡ r
   unfolding recordBytes itemsOf
   record-back b e =
-      let n : length (map be (pieces itemSize (itemCount r) (drop recordSize r))) ≡ itemCount r =
-      length-map (pieces itemSize (itemCount r) (drop recordSize r)) be ∙ length-pieces itemSize (itemCount r) (drop recordSize r) in
+      let n : length (map be (pieces itemSize (itemCount r) (drop recordSize r))) ≡ itemCount r = length-itemsOf r in
       let head : bytesOf recordFields (requestNumbers (requestOf r) (itemCount r)) ≡ take recordSize r =
       ap (bytesOf recordFields) numbers-back ∙ rw record-size at (bytesOf-numbers recordFields r b (rw record-size (omega arith))) in
       let items : flatMap (toBe itemSize) (map be (pieces itemSize (itemCount r) (drop recordSize r))) ≡ drop recordSize r =
@@ -67,7 +71,7 @@ module _ (q : Request) (items rest : List ℕ) (fit : Fit recordFields (requestN
   unfolding recordBytes
   numbers-again = rw append-assoc (numbers-bytesOf recordFields (requestNumbers q (length items)) (flatMap (toBe itemSize) items ++ rest) fit)
 
-  field-again : (k : ℕ) → field recordFields k (recordBytes q items ++ rest) ≡ getD (requestNumbers q (length items)) k 0
+  pub field-again : (k : ℕ) → field recordFields k (recordBytes q items ++ rest) ≡ getD (requestNumbers q (length items)) k 0
   unfolding field
   field-again k = rw numbers-again
 
