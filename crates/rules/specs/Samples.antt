@@ -153,10 +153,45 @@ abbrev pub lastOf : List ℕ → List ℕ → List (List ℕ) → Outcome
 lastOf t r [] = applied t r blank
 lastOf t r (s ∷ ss) = lastOf (applied t r blank .table) s ss
 
--- THE CLAIM: `applied` gives what each row says
+-- `applied` gives what each row says
 abbrev pub AllHold : List Sample → Type 0
 AllHold [] = Unit {0}
 AllHold (s ∷ ss) = (lastOf (s .before) (s .first) (s .more) ≡ s .gives) × AllHold ss
+
+-- ---- the rows that are not marked, and readings that no row shows
+
+-- a head with one emergency area, the identifier 0
+abbrev pub areaZero : List ℕ → List ℕ
+areaZero places = header 1 ++ identity 16 ++ (0 ∷ 0 ∷ 1 ∷ 1 ∷ replicate 12 0) ++ places
+
+abbrev pub furtherSamples : List Sample
+furtherSamples =
+    -- 512 items: accepted, here none of them the cell's
+    sample twice (cancels 4 4370 16 1 512 (replicate 4096 0)) [] (leaves twice (answers 2 4370 16 0))
+    -- 513 items: 4
+    ∷ sample twice (cancels 4 4370 16 1 513 (replicate 4104 0)) [] (refuses 4 twice)
+    -- an unending text at 65,535 sent stays 65,535
+    ∷ sample (one (text 4370 7 1 0 65535 0 ++ free 3)) passes []
+    (leaves (one (text 4370 7 1 0 65535 0 ++ free 3)) (answers 5 0 0 1 ++ says 16 65535 7))
+    -- area 1 with n = 0: 5
+    ∷ sample twice (cancels 4 4370 16 1 0 []) [] (refuses 5 twice)
+    -- the first text ends, and the others close up in order
+    ∷ sample (one (text 1 7 5 2 1 0 ++ text 2 8 5 3 1 4 ++ text 3 9 5 3 1 4 ++ free 1)) passes []
+    (leaves (one (text 2 8 5 3 1 3 ++ text 3 9 5 3 1 3 ++ free 2)) (answers 5 0 0 1 ++ says 16 2 7))
+    -- a text in the middle is cancelled
+    ∷ sample (one four) (cancels 4 2 16 0 0 []) []
+    (leaves (one (text 1 7 5 3 1 4 ++ text 3 7 5 3 1 4 ++ text 4 7 5 3 1 4 ++ free 1)) (answers 2 2 16 1 ++ says 16 1 0))
+    -- the zero rules come first: no row even where the same text is live
+    ∷ sample twice (starts 0 4370 7 5 0) [] (leaves twice (answers 1 4370 16 0))
+    -- an item 0 names a used emergency area 0 ..
+    ∷ sample (areaZero (text 4370 7 2 3 2 1 ++ free 3)) (cancels 4 4370 16 3 1 (replicate 8 0)) []
+    (leaves (areaZero (free 4)) (answers 2 4370 16 1 ++ says 16 2 0))
+    -- .. and never the zero filling
+    ∷ sample twice (cancels 4 4370 16 3 1 (replicate 8 0)) [] (leaves twice (answers 2 4370 16 0))
+    -- a restart reports the cell though nothing was live, a failure does not
+    ∷ sample (one (free 4)) (request 3 0 0 0 0 0 0 0 0 0 []) [] (leaves (one (free 4)) (answers 3 0 0 1 ++ says 16 0 0))
+    ∷ sample (one (free 4)) (request 4 0 0 0 0 0 0 0 0 0 []) [] (leaves (one (free 4)) (answers 4 0 0 0))
+    ∷ []
 
 -- ---- the program's example: two cells, seven requests
 
@@ -190,8 +225,11 @@ exampleGives =
     ∷ leaves (two (free 4) (free 4)) (answers 2 4370 16 0)
     ∷ []
 
--- THE CLAIM: its heads build the empty table, and its requests have these outcomes
-pub record ExampleHolds : Type 0 where
+-- ---- THE CLAIM: each row is as it says; the example's heads build the empty table, and its requests have these outcomes
+
+pub record SamplesHold : Type 0 where
+  pub marked : AllHold samples
+  pub further : AllHold furtherSamples
   pub builds : built (head 16 1 ++ head 32 2) (replicate 230 9)
       ≡ record { number = 0; length = 224; buffer = two (free 4) (free 4) ++ replicate 6 9 }
   pub runs : run (two (free 4) (free 4)) example ≡ exampleGives
