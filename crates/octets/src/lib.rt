@@ -1,10 +1,102 @@
-// Big-endian numbers and runs of bytes in lent slices.
-ghost use mathlib.Core.Path.{_≡_};
-ghost use Prim.Native.Nat.{_<_};
+// Big-endian numbers and runs of bytes in lent slices. A number is one load or store and a turn of its bytes; one of 24 bits is two.
+mod turned;
 
-// A byte as a number of 16 bits, which says that it is below 256.
-fn wide(x: u8) -> u16
-    ensures { λ r. ⌜ (r ≡ x) × (r < 256) ⌝ }
+use turned::load16;
+use turned::load32;
+use turned::load64;
+use turned::store16;
+use turned::store32;
+use turned::store64;
+use turned::turn16;
+use turned::turn32;
+use turned::turn64;
+ghost use mathlib.Core.Path.{_≡_};
+ghost use Prim.Native.Nat.{_+_, _<_, _≤_};
+ghost use lib.ListN.{length};
+ghost use lib.Seq.{sets};
+ghost use Rattle.octets.specs.Runs.{gets};
+ghost use Rattle.octets.specs.Numbers.{be, toBe};
+
+pub fn get8(s: &[u8], at: usize) -> u8
+    requires { ⌜ at + 1 ≤ length (now s) ⌝ }
+    ensures { λ r. ⌜ r ≡ be (gets (now (s .entry)) at 1) ⌝ }
 {
-    x as u16
+    s[at]
+}
+
+pub fn get16(s: &[u8], at: usize) -> u16
+    requires { ⌜ at + 2 ≤ length (now s) ⌝ }
+    ensures { λ r. ⌜ r ≡ be (gets (now (s .entry)) at 2) ⌝ }
+{
+    turn16(load16(s, at))
+}
+
+pub fn get24(s: &[u8], at: usize) -> u32
+    requires { ⌜ at + 3 ≤ length (now s) ⌝ }
+    ensures { λ r. ⌜ r ≡ be (gets (now (s .entry)) at 3) ⌝ }
+{
+    (get16(s, at) as u32) * 256 + (get8(s, at + 2) as u32)
+}
+
+pub fn get32(s: &[u8], at: usize) -> u32
+    requires { ⌜ at + 4 ≤ length (now s) ⌝ }
+    ensures { λ r. ⌜ r ≡ be (gets (now (s .entry)) at 4) ⌝ }
+{
+    turn32(load32(s, at))
+}
+
+pub fn get64(s: &[u8], at: usize) -> u64
+    requires { ⌜ at + 8 ≤ length (now s) ⌝ }
+    ensures { λ r. ⌜ r ≡ be (gets (now (s .entry)) at 8) ⌝ }
+{
+    turn64(load64(s, at))
+}
+
+pub fn put8(s: &mut [u8], at: usize, x: u8)
+    requires { ⌜ at + 1 ≤ length (now s) ⌝ }
+    ensures { λ _. ⌜ now (s .exit) ≡ sets (now (s .entry)) at (toBe 1 x) ⌝ }
+{
+    s[at] = x;
+}
+
+pub fn put16(s: &mut [u8], at: usize, x: u16)
+    requires { ⌜ at + 2 ≤ length (now s) ⌝ }
+    ensures { λ _. ⌜ now (s .exit) ≡ sets (now (s .entry)) at (toBe 2 x) ⌝ }
+{
+    store16(s, at, turn16(x));
+}
+
+pub fn put24(s: &mut [u8], at: usize, x: u32)
+    requires { ⌜ at + 3 ≤ length (now s) ⌝ }
+    requires { ⌜ x < 16777216 ⌝ }
+    ensures { λ _. ⌜ now (s .exit) ≡ sets (now (s .entry)) at (toBe 3 x) ⌝ }
+{
+    put16(s, at, (x / 256) as u16);
+    put8(s, at + 2, (x % 256) as u8);
+}
+
+pub fn put32(s: &mut [u8], at: usize, x: u32)
+    requires { ⌜ at + 4 ≤ length (now s) ⌝ }
+    ensures { λ _. ⌜ now (s .exit) ≡ sets (now (s .entry)) at (toBe 4 x) ⌝ }
+{
+    store32(s, at, turn32(x));
+}
+
+pub fn put64(s: &mut [u8], at: usize, x: u64)
+    requires { ⌜ at + 8 ≤ length (now s) ⌝ }
+    ensures { λ _. ⌜ now (s .exit) ≡ sets (now (s .entry)) at (toBe 8 x) ⌝ }
+{
+    store64(s, at, turn64(x));
+}
+
+// All of `from`, stored from an index on.
+pub fn copy(to: &mut [u8], at: usize, from: &[u8])
+    requires { ⌜ at + length (now from) ≤ length (now to) ⌝ }
+    ensures { λ _. ⌜ now (to .exit) ≡ sets (now (to .entry)) at (now (from .entry)) ⌝ }
+{
+    let mut i = 0;
+    while i < from.len() {
+        to[at + i] = from[i];
+        i += 1;
+    }
 }
