@@ -8,3 +8,4 @@ pub mod RoundTrips
 pub mod SamplesHold
 pub mod VerdictLaws
 pub mod FitLaws
+pub mod PlaceLaws

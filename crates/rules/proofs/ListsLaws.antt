@@ -7,7 +7,10 @@ use Prim.Native.Nat.{ℕ, zero, suc, _+_, _≤_, _<_}
 use native.Mathlib.Omega.{arith}
 use lib.ListN.{length, length-append, replicate}
 use borrow.Author.Tests.{eqb-true, eq-eqb}
+use borrow.Author.Tests.{ltb-true, ltb-false}
 use lib.Dec.{eqb}
+use lib.Dec.{ltb}
+use Rattle.rules.specs.Lists.{larger}
 use Rattle.rules.specs.Lists.{every, any, those, zeros, oneOf}
 
 -- ---- tests
@@ -74,3 +77,42 @@ or-else false b e n = e
 pub else-or : (a b : Bool) → (a ≡ false → b ≡ true) → a || b ≡ true
 else-or true b k = refl
 else-or false b k = k refl
+
+pub neither : (a b : Bool) → a || b ≡ false → (a ≡ false) × (b ≡ false)
+neither true b e = absurd (false≢true (sym e))
+neither false b e = (refl, e)
+
+pub larger-left : (a b : ℕ) → a ≤ larger a b
+larger-left a b = cond-either (λ n. a ≤ n) (ltb a b) b a (λ e. omega (arith, ltb-true a b e)) (λ e. omega arith)
+
+pub larger-right : (a b : ℕ) → b ≤ larger a b
+larger-right a b = cond-either (λ n. b ≤ n) (ltb a b) b a (λ e. omega arith) (λ e. omega (arith, ltb-false a b e))
+
+-- ---- any
+
+pub any-append : {A : Type 0} (f : A → Bool) (xs ys : List A) → any f xs ≡ false → any f ys ≡ false → any f (xs ++ ys) ≡ false
+unfolding any
+any-append f [] ys p q = q
+any-append f (x ∷ xs) ys p q =
+    let h = neither (f x) (any f xs) p in
+    rw (h .0, any-append f xs ys (h .1) q)
+
+-- what f makes of each: none of the results is meant if no origin is
+pub any-flatMap : {A B : Type 0} (f : A → List B) (g : A → Bool) (h : B → Bool) (xs : List A) → ((x : A) → g x ≡ false → any h (f x) ≡ false) → any g xs ≡ false
+    → any h (flatMap f xs) ≡ false
+unfolding any flatMap
+any-flatMap f g h [] k p = refl
+any-flatMap f g h (x ∷ xs) k p =
+    let s = neither (g x) (any g xs) p in
+    any-append h (f x) (flatMap f xs) (k x (s .0)) (any-flatMap f g h xs k (s .1))
+
+-- ---- what f makes of each, where that is little
+
+pub few-flatMap : {A B : Type 0} (f : A → List B) → ((x : A) → length (f x) ≤ 1) → (xs : List A) → length (flatMap f xs) ≤ length xs
+unfolding flatMap
+few-flatMap f k [] = omega arith
+few-flatMap f k (x ∷ xs) = rw length-append (omega (arith, k x, few-flatMap f k xs))
+
+pub few-cond : {A : Type 0} (b : Bool) (x : A) → length (cond b (x ∷ []) []) ≤ 1
+few-cond true x = omega arith
+few-cond false x = omega arith
