@@ -9,3 +9,4 @@ pub mod SamplesHold
 pub mod VerdictLaws
 pub mod FitLaws
 pub mod PlaceLaws
+pub mod SoundPlaceLaws

@@ -116,3 +116,11 @@ few-flatMap f k (x ∷ xs) = rw length-append (omega (arith, k x, few-flatMap f 
 pub few-cond : {A : Type 0} (b : Bool) (x : A) → length (cond b (x ∷ []) []) ≤ 1
 few-cond true x = omega arith
 few-cond false x = omega arith
+
+pub every-cond : {A : Type 0} (f : A → Bool) (b : Bool) (x : A) → (b ≡ true → f x ≡ true) → every f (cond b (x ∷ []) []) ≡ true
+unfolding every
+every-cond f true x k = and-true (f x) true (k refl) refl
+every-cond f false x k = refl
+
+pub larger-most : (a b c : ℕ) → a ≤ c → b ≤ c → larger a b ≤ c
+larger-most a b c p q = cond-either (λ n. n ≤ c) (ltb a b) b a (λ e. q) (λ e. p)
