@@ -10,3 +10,4 @@ pub mod VerdictLaws
 pub mod FitLaws
 pub mod PlaceLaws
 pub mod SoundPlaceLaws
+pub mod StartLaws
