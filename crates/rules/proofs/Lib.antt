@@ -11,3 +11,4 @@ pub mod FitLaws
 pub mod PlaceLaws
 pub mod SoundPlaceLaws
 pub mod StartLaws
+pub mod CancelLaws

@@ -124,3 +124,25 @@ every-cond f false x k = refl
 
 pub larger-most : (a b c : ℕ) → a ≤ c → b ≤ c → larger a b ≤ c
 larger-most a b c p q = cond-either (λ n. n ≤ c) (ltb a b) b a (λ e. q) (λ e. p)
+
+-- ---- where f holds of none
+
+pub none-made : {A B : Type 0} (f : A → Bool) (h : A → List B) (xs : List A) → any f xs ≡ false → flatMap (λ x. cond (f x) (h x) []) xs ≡ []
+unfolding any flatMap
+none-made f h [] p = refl
+none-made f h (x ∷ xs) p =
+    let n = neither (f x) (any f xs) p in
+    rw (n .0, none-made f h xs (n .1))
+
+pub all-those : {A : Type 0} (f : A → Bool) (xs : List A) → any f xs ≡ false → those (λ x. not (f x)) xs ≡ xs
+unfolding any those flatMap
+all-those f [] p = refl
+all-those f (x ∷ xs) p =
+    let n = neither (f x) (any f xs) p in
+    rw (n .0, all-those f xs (n .1))
+
+-- of each, f holds or it is left
+pub made-left : {A B : Type 0} (f : A → Bool) (h : A → B) (xs : List A) → length (flatMap (λ x. cond (f x) (h x ∷ []) []) xs) + length (those (λ x. not (f x)) xs) ≡ length xs
+unfolding those flatMap
+made-left f h [] = refl
+made-left f h (x ∷ xs) = by-test (f x) (λ t. rw t (omega (arith, made-left f h xs))) (λ t. rw t (omega (arith, made-left f h xs)))

@@ -76,6 +76,12 @@ text-turned p r e =
 
 -- ---- no two alike
 
+pub different-parts : (p : Place) (ps : List Place) → different (p ∷ ps) ≡ true → (running (p .identifier) (p .serial) ps ≡ false) × (different ps ≡ true)
+unfolding different
+different-parts p ps d =
+    let h = both (not (running (p .identifier) (p .serial) ps)) (different ps) d in
+    (not-true (running (p .identifier) (p .serial) ps) (h .0), h .1)
+
 -- nothing of a place, or one with the same text
 pub data Kept (p : Place) : List Place → Type 0 where
   gone : Kept p []
@@ -115,15 +121,15 @@ module _ (f : Place → List Place) (k : Keeps f) where
   unfolding different flatMap
   keeps-different [] d = refl
   keeps-different (p ∷ ps) d =
-      let h = both (not (running (p .identifier) (p .serial) ps)) (different ps) d in
-      kept-different (k p) (flatMap f ps) (keeps-absent (p .identifier) (p .serial) ps (not-true _ (h .0))) (keeps-different ps (h .1))
+      let h = different-parts p ps d in
+      kept-different (k p) (flatMap f ps) (keeps-absent (p .identifier) (p .serial) ps (h .0)) (keeps-different ps (h .1))
 
 pub different-snoc : (ps : List Place) (p : Place) → different ps ≡ true → running (p .identifier) (p .serial) ps ≡ false → different (ps ++ (p ∷ [])) ≡ true
 unfolding different running any
 different-snoc [] p d n = refl
 different-snoc (r ∷ rs) p d n =
-    let h = both (not (running (r .identifier) (r .serial) rs)) (different rs) d in
+    let h = different-parts r rs d in
     let t = neither (isText (p .identifier) (p .serial) r) (running (p .identifier) (p .serial) rs) n in
     let a : running (r .identifier) (r .serial) (rs ++ (p ∷ [])) ≡ false =
-    any-append (isText (r .identifier) (r .serial)) rs (p ∷ []) (not-true _ (h .0)) (rw (text-turned p r (t .0))) in
+    any-append (isText (r .identifier) (r .serial)) rs (p ∷ []) (h .0) (rw (text-turned p r (t .0))) in
     rw (a, different-snoc rs p (h .1) (t .1))
