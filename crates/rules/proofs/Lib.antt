@@ -12,3 +12,4 @@ pub mod PlaceLaws
 pub mod SoundPlaceLaws
 pub mod StartLaws
 pub mod CancelLaws
+pub mod HeadCodec

@@ -1,0 +1,115 @@
+-- A cell's head and its 24 bytes are each other's inverse, where the bytes are legal and where the head is sound; and legal bytes say a sound head, whose bytes are legal.
+-- By the layout's laws: the seven numbers that legal bytes say are those of the head, since the areas that are not in use are zero.
+use mathlib.Core.Path.{_≡_, refl, sym, ap, _∙_}
+use mathlib.Core.Bool.{true, _&&_}
+use mathlib.Core.List.{List, [], _∷_, _++_}
+use Prim.Native.Nat.{ℕ, zero, suc, _+_, _-_, _≤_, _<_}
+use native.Mathlib.Omega.{arith}
+use borrow.Author.Tests.{ltb-true, leb-true, lt-ltb, le-leb}
+use lib.Dec.{ltb, leb}
+use lib.ListN.{length, take, drop, getD, replicate, length-drop, take-append-drop}
+use lib.Seq.{length-take-le}
+use Rattle.octets.specs.Runs.{Bytes}
+use Rattle.octets.specs.Fields.{size, numbers, bytesOf, Fit, filled}
+use Rattle.octets.proofs.FieldsLaws.{length-filled, filled-append, take-filled, drop-filled, fit-numbers, bytes-bytesOf, length-numbers}
+use Rattle.rules.specs.Lists.{zeros, ascending}
+use Rattle.rules.specs.Layout.{field, headFields, headSize, mostAreas, cellEnd}
+use Rattle.rules.specs.Table.{Head, areasUsed, allAreas, headOf, headNumbers, headBytes, legalHead}
+use Rattle.rules.specs.Sound.{fits, soundHead}
+use Rattle.rules.proofs.ListsLaws.{both, zeros-replicate, replicate-zeros}
+use Rattle.rules.proofs.FitLaws.{fits-Fit, Fit-fits, numbers-written, numbers-again, length-written}
+
+-- ---- the tests, part by part
+
+pub record LegalHead (b : List ℕ) : Type 0 where
+  pub small : headOf b .identity < cellEnd
+  pub few : areasUsed b ≤ mostAreas
+  pub order : ascending (headOf b .areas) ≡ true
+  pub spare : zeros (drop (areasUsed b) (allAreas b)) ≡ true
+
+pub legal-head : (b : List ℕ) → legalHead b ≡ true → LegalHead b
+unfolding legalHead
+legal-head b e =
+    let h = both _ _ e in
+    let k = both _ _ (h .0) in
+    let l = both _ _ (k .0) in
+    record {
+      small = ltb-true (headOf b .identity) cellEnd (l .0);
+      few = leb-true (areasUsed b) mostAreas (l .1);
+      order = k .1;
+      spare = h .1;
+    }
+
+pub record SoundHead (h : Head) : Type 0 where
+  pub fit : Fit headFields (headNumbers h)
+  pub small : h .identity < cellEnd
+  pub few : length (h .areas) ≤ mostAreas
+  pub order : ascending (h .areas) ≡ true
+
+pub sound-head : (h : Head) → soundHead h ≡ true → SoundHead h
+unfolding soundHead
+sound-head h e =
+    let k = both _ _ e in
+    let l = both _ _ (k .0) in
+    let m = both _ _ (l .0) in
+    record {
+      fit = fits-Fit headFields (headNumbers h) (m .0);
+      small = ltb-true (h .identity) cellEnd (m .1);
+      few = leb-true (length (h .areas)) mostAreas (l .1);
+      order = k .1;
+    }
+
+-- ---- from bytes
+
+-- what is zero from n on is filled up with zeros again
+filled-zeros : (n : ℕ) (xs : List ℕ) → n ≤ length xs → zeros (drop n xs) ≡ true → filled (length xs) 0 (take n xs) ≡ xs
+filled-zeros n xs h z =
+    let t : length (take n xs) ≡ n = length-take-le n xs h in
+    let d : length (drop n xs) ≡ length xs - n = length-drop n xs in
+    filled-append (length xs) 0 (take n xs) (omega arith)
+    ∙ rw (t, ← d, ← zeros-replicate (drop n xs) z) (take-append-drop n xs)
+
+module _ (b : List ℕ) (bytes : Bytes b) (long : length b ≡ headSize) (legal : legalHead b ≡ true) where
+  used : length (headOf b .areas) ≡ areasUsed b
+  unfolding headOf numbers
+  used = length-take-le (areasUsed b) (allAreas b) (legal-head b legal .few)
+
+  same-numbers : headNumbers (headOf b) ≡ numbers headFields b
+  unfolding headNumbers headOf numbers field
+  same-numbers =
+      let few : areasUsed b ≤ length (allAreas b) = legal-head b legal .few in
+      rw (used, filled-zeros (areasUsed b) (allAreas b) few (legal-head b legal .spare))
+
+  pub head-back : headBytes (headOf b) ≡ b
+  unfolding headBytes size
+  head-back = rw same-numbers (numbers-again headFields b bytes long)
+
+  pub head-sound : soundHead (headOf b) ≡ true
+  unfolding soundHead size
+  head-sound =
+      rw (used, same-numbers, Fit-fits headFields (numbers headFields b) (fit-numbers headFields b bytes (omega arith)), lt-ltb (headOf b .identity) cellEnd (legal-head b legal .small), le-leb (areasUsed b) mostAreas (legal-head b legal .few))
+      (legal-head b legal .order)
+
+-- ---- to bytes
+
+pub length-headBytes : (h : Head) → length (headBytes h) ≡ headSize
+unfolding headBytes headNumbers size
+length-headBytes h = length-written headFields (headNumbers h) (ap (λ n. suc (suc (suc n))) (length-filled mostAreas 0 (h .areas)))
+
+module _ (h : Head) (sound : soundHead h ≡ true) where
+  written : numbers headFields (headBytes h) ≡ headNumbers h
+  unfolding headBytes
+  written = numbers-written headFields (headNumbers h) (sound-head h sound .fit)
+
+  pub bytes-headBytes : Bytes (headBytes h)
+  unfolding headBytes
+  bytes-headBytes = bytes-bytesOf headFields (headNumbers h) (sound-head h sound .fit)
+
+  pub head-again : headOf (headBytes h) ≡ h
+  unfolding headOf headNumbers field
+  head-again = rw (written, take-filled mostAreas 0 (h .areas) (sound-head h sound .few))
+
+  pub head-legal : legalHead (headBytes h) ≡ true
+  unfolding legalHead headNumbers field
+  head-legal =
+      rw (head-again, written, drop-filled mostAreas 0 (h .areas) (sound-head h sound .few), replicate-zeros (mostAreas - length (h .areas)), lt-ltb (h .identity) cellEnd (sound-head h sound .small), le-leb (length (h .areas)) mostAreas (sound-head h sound .few), sound-head h sound .order)
