@@ -4,12 +4,13 @@ use mathlib.Core.Path.{_≡_, refl, ap, _∙_}
 use mathlib.Core.Bool.{Bool, true, _&&_}
 use mathlib.Core.List.{List, [], _∷_, _++_, map, flatMap}
 use Prim.Native.Nat.{ℕ, zero, suc, _+_, _*_, _-_, _≤_, _<_}
-use native.Mathlib.Nat.{mul-suc}
+use native.Mathlib.Nat.{mul-zero, mul-suc, add-comm}
 use native.Mathlib.Omega.{arith}
 use lib.ListN.{length, take, drop, getD, length-append, length-take, length-drop}
-use lib.Seq.{getD-take, getD-drop, length-take-le}
+use lib.Seq.{getD-take, getD-drop, length-take-le, take-at, drop-at}
 use Rattle.octets.specs.Runs.{Bytes, pieces}
-use Rattle.octets.proofs.RunsLaws.{bytes-take, bytes-drop}
+use Rattle.octets.specs.Fields.{filled}
+use Rattle.octets.proofs.RunsLaws.{bytes-take, bytes-drop, bytes-append}
 use Rattle.rules.specs.Lists.{every}
 use Rattle.rules.proofs.ListsLaws.{both, and-true}
 
@@ -57,3 +58,32 @@ all-pieces w (suc n) l b h =
     let s : w * suc n ≡ w * n + w = mul-suc w n in
     let d : length (drop w l) ≡ length l - w = length-drop w l in
     more (bytes-take w l b, length-take-le w l (omega arith)) (all-pieces w n (drop w l) (bytes-drop w l b) (omega arith))
+
+pub all-of : {A : Type 0} {P : A → Type 0} → ((x : A) → P x) → (xs : List A) → All P xs
+all-of k [] = none
+all-of k (x ∷ xs) = more (k x) (all-of k xs)
+
+pub all-filled : {A : Type 0} {P : A → Type 0} (n : ℕ) (z : A) → P z → {xs : List A} → All P xs → All P (filled n z xs)
+unfolding filled
+all-filled zero z h ps = none
+all-filled (suc n) z h none = more h (all-filled n z h none)
+all-filled (suc n) z h (more p ps) = more p (all-filled n z h ps)
+
+-- ---- lists that are joined
+
+pub bytes-flatMap-all : {A : Type 0} (f : A → List ℕ) {xs : List A} → All (λ x. Bytes (f x)) xs → Bytes (flatMap f xs)
+unfolding flatMap
+bytes-flatMap-all f none = λ i. omega arith
+bytes-flatMap-all f (more {x} {xs} p ps) = bytes-append (f x) (flatMap f xs) p (bytes-flatMap-all f ps)
+
+pub length-joined : (w : ℕ) {ls : List (List ℕ)} → All (λ l. length l ≡ w) ls → length (flatMap (λ l. l) ls) ≡ w * length ls
+unfolding flatMap
+length-joined w none = rw mul-zero
+length-joined w (more p ps) = rw (length-append, p, length-joined w ps, mul-suc, add-comm w)
+
+-- cut where they were joined
+pub pieces-joined : (w : ℕ) {ls : List (List ℕ)} → All (λ l. length l ≡ w) ls → pieces w (length ls) (flatMap (λ l. l) ls) ≡ ls
+unfolding pieces flatMap
+pieces-joined w none = refl
+pieces-joined w (more {x = l} {xs = ls} p ps) =
+    rw (take-at l (flatMap (λ k. k) ls) w p, drop-at l (flatMap (λ k. k) ls) w p, pieces-joined w ps)

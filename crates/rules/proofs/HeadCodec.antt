@@ -1,21 +1,20 @@
 -- A cell's head and its 24 bytes are each other's inverse, where the bytes are legal and where the head is sound; and legal bytes say a sound head, whose bytes are legal.
 -- By the layout's laws: the seven numbers that legal bytes say are those of the head, since the areas that are not in use are zero.
-use mathlib.Core.Path.{_≡_, refl, sym, ap, _∙_}
-use mathlib.Core.Bool.{true, _&&_}
-use mathlib.Core.List.{List, [], _∷_, _++_}
-use Prim.Native.Nat.{ℕ, zero, suc, _+_, _-_, _≤_, _<_}
+use mathlib.Core.Path.{_≡_, ap, _∙_}
+use mathlib.Core.Bool.{true}
+use mathlib.Core.List.{List}
+use Prim.Native.Nat.{ℕ, suc, _-_, _≤_, _<_}
 use native.Mathlib.Omega.{arith}
 use borrow.Author.Tests.{ltb-true, leb-true, lt-ltb, le-leb}
-use lib.Dec.{ltb, leb}
-use lib.ListN.{length, take, drop, getD, replicate, length-drop, take-append-drop}
+use lib.ListN.{length, take, drop, length-drop, take-append-drop}
 use lib.Seq.{length-take-le}
 use Rattle.octets.specs.Runs.{Bytes}
-use Rattle.octets.specs.Fields.{size, numbers, bytesOf, Fit, filled}
-use Rattle.octets.proofs.FieldsLaws.{length-filled, filled-append, take-filled, drop-filled, fit-numbers, bytes-bytesOf, length-numbers}
+use Rattle.octets.specs.Fields.{size, numbers, Fit, filled}
+use Rattle.octets.proofs.FieldsLaws.{length-filled, filled-append, take-filled, drop-filled, fit-numbers, bytes-bytesOf}
 use Rattle.rules.specs.Lists.{zeros, ascending}
 use Rattle.rules.specs.Layout.{field, headFields, headSize, mostAreas, cellEnd}
 use Rattle.rules.specs.Table.{Head, areasUsed, allAreas, headOf, headNumbers, headBytes, legalHead}
-use Rattle.rules.specs.Sound.{fits, soundHead}
+use Rattle.rules.specs.Sound.{soundHead}
 use Rattle.rules.proofs.ListsLaws.{both, zeros-replicate, replicate-zeros}
 use Rattle.rules.proofs.FitLaws.{fits-Fit, Fit-fits, numbers-written, numbers-again, length-written}
 

@@ -13,3 +13,4 @@ pub mod SoundPlaceLaws
 pub mod StartLaws
 pub mod CancelLaws
 pub mod HeadCodec
+pub mod PlaceCodec
