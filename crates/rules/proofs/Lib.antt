@@ -14,3 +14,4 @@ pub mod StartLaws
 pub mod CancelLaws
 pub mod HeadCodec
 pub mod PlaceCodec
+pub mod CellCodec
