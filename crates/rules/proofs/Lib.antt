@@ -15,3 +15,5 @@ pub mod CancelLaws
 pub mod HeadCodec
 pub mod PlaceCodec
 pub mod CellCodec
+pub mod VerdictLaws
+pub mod TableCodec
