@@ -15,5 +15,4 @@ pub mod CancelLaws
 pub mod HeadCodec
 pub mod PlaceCodec
 pub mod CellCodec
-pub mod VerdictLaws
 pub mod TableCodec

@@ -146,6 +146,7 @@ pub made-left : {A B : Type 0} (f : A → Bool) (h : A → B) (xs : List A) → 
 unfolding those flatMap
 made-left f h [] = refl
 made-left f h (x ∷ xs) = by-test (f x) (λ t. rw t (omega (arith, made-left f h xs))) (λ t. rw t (omega (arith, made-left f h xs)))
+
 -- ---- joined
 
 pub flatMap-map : {A B C : Type 0} (f : B → List C) (g : A → B) (xs : List A) → flatMap f (map g xs) ≡ flatMap (λ x. f (g x)) xs

@@ -3,6 +3,8 @@ ghost use mathlib.Core.Path.{_≡_};
 ghost use Rattle.rules.specs.Identity.{identityAnswer, plmnOf, partOf, trackingItem};
 ghost use Rattle.rules.specs.Refusals.{numberOf, verdictNumber, answerNumber, answerLength};
 
+pub mod layout;
+
 // "A count of seconds never stands where a count of broadcasts is meant": each has a type of its own.
 pub struct Seconds(pub u32);
 

@@ -1,0 +1,106 @@
+// Document 01's sizes, offsets and limits, once for all code. specs/Layout has them for the statements; each proof that uses both joins them.
+
+// ---- the table
+
+pub const HEADER: usize = 16;
+
+pub const HEAD: usize = 24;
+
+pub const PLACE: usize = 20;
+
+pub const PLACES: usize = 4;
+
+pub const CELL: usize = HEAD + PLACES * PLACE;
+
+pub const MOST_CELLS: usize = 512;
+
+pub const TABLE_VERSION: u16 = 1;
+
+// Offsets in the header.
+pub const CELLS_AT: usize = 5;
+
+pub const PLACES_AT: usize = 7;
+
+pub const ZEROS_AT: usize = 8;
+
+// Offsets in a head.
+pub const CODE_AT: usize = 8;
+
+pub const AREAS_USED_AT: usize = 11;
+
+pub const AREAS_AT: usize = 12;
+
+pub const AREA: usize = 3;
+
+// Offsets in a place.
+pub const CONTENT_AT: usize = 4;
+
+pub const PERIOD_AT: usize = 8;
+
+pub const REQUESTED_AT: usize = 10;
+
+pub const SENT_AT: usize = 12;
+
+pub const WAIT_AT: usize = 14;
+
+pub const SIB_AT: usize = 16;
+
+pub const LIVE_AT: usize = 17;
+
+pub const FILLING_AT: usize = 18;
+
+pub const LONGEST_PERIOD: u32 = 4095;
+
+pub const MOST_SENT: u16 = 65535;
+
+pub const FIRST_SIB: u8 = 6;
+
+pub const LAST_SIB: u8 = 8;
+
+// ---- the request record
+
+pub const RECORD: usize = 26;
+
+pub const ITEM: usize = 8;
+
+pub const MOST_ITEMS: usize = 512;
+
+pub const RECORD_VERSION: u16 = 1;
+
+// Offsets in a record.
+pub const KIND_AT: usize = 5;
+
+pub const FLAGS_AT: usize = 6;
+
+pub const AREA_AT: usize = 7;
+
+pub const IDENTIFIER_AT: usize = 8;
+
+pub const SERIAL_AT: usize = 10;
+
+pub const RECORD_CONTENT_AT: usize = 12;
+
+pub const RECORD_PERIOD_AT: usize = 16;
+
+pub const RECORD_REQUESTED_AT: usize = 20;
+
+pub const RECORD_SIB_AT: usize = 22;
+
+pub const ZERO_AT: usize = 23;
+
+pub const COUNT_AT: usize = 24;
+
+// What an item, by its area, stays below.
+pub const CELL_END: u64 = 1 << 60;
+
+pub const TRACKING_END: u64 = 1 << 48;
+
+pub const EMERGENCY_END: u64 = 1 << 24;
+
+// ---- the answer
+
+pub const ANSWER: usize = 12;
+
+pub const ROW: usize = 14;
+
+pub const ANSWER_VERSION: u16 = 1;
