@@ -16,3 +16,4 @@ pub mod HeadCodec
 pub mod PlaceCodec
 pub mod CellCodec
 pub mod TableCodec
+pub mod SecondLaws
