@@ -17,3 +17,4 @@ pub mod PlaceCodec
 pub mod CellCodec
 pub mod TableCodec
 pub mod SecondLaws
+pub mod InCellLaws

@@ -1,0 +1,131 @@
+-- What an accepted request does in a cell: its places stay sound, its rows are no more than document 01 has room for, and their numbers fit a row.
+-- By the request's kind, from the laws of each.
+use mathlib.Core.Path.{_≡_, refl}
+use mathlib.Core.Bool.{Bool, true, false, cond, _&&_}
+use mathlib.Core.List.{List, [], _∷_, flatMap}
+use Prim.Native.Nat.{ℕ, _^_, _≤_, _<_}
+use native.Mathlib.Omega.{arith}
+use lib.Dec.{eqb, ltb}
+use lib.ListN.{length}
+use borrow.Author.Tests.{eqb-true, eqb-false, lt-ltb}
+use Rattle.rules.specs.Lists.{every}
+use Rattle.rules.specs.Layout.{placesPerCell, mostSent}
+use Rattle.rules.specs.Table.{isText}
+use Rattle.rules.specs.Record.{writeReplace, cancelOrKill, restartKind, failureKind, oneSecond, cancelAll}
+use Rattle.rules.specs.Sound.{soundPlace, soundPlaces, fitRequest}
+use Rattle.rules.specs.InCell.{Told, Done, start, cancel, restart, failure, second, reported, isDue, later, inCell}
+use Rattle.rules.specs.Answer.{rowsPerCell}
+use Rattle.rules.specs.Refusals.{requestVerdict}
+use Rattle.rules.specs.declared.Request.{Request}
+use Rattle.rules.specs.declared.Place.{Place}
+use Rattle.rules.specs.declared.Verdict.the-variants.{Accepted}
+use Rattle.rules.proofs.ListsLaws.{cond-either, every-flatMap, every-cond}
+use Rattle.rules.proofs.VerdictLaws.{request-accepted, KnownKind, starts, cancels, restarts, fails, passes, kind-known}
+use Rattle.rules.proofs.SoundPlaceLaws.{SoundPlace, sound-facts, places-facts}
+use Rattle.rules.proofs.StartLaws.{start-sound, start-rows, start-few}
+use Rattle.rules.proofs.CancelLaws.{cancel-sound, restart-sound, failure-sound, live-rows, cancel-few, restart-few, failure-few}
+use Rattle.rules.proofs.SecondLaws.{later-most, second-sound, second-few}
+
+-- ---- the rule of each kind
+
+module _ (q : Request) (ps : List Place) where
+  pub inCell-start : q .kind ≡ writeReplace → inCell q ps ≡ start q ps
+  unfolding inCell
+  inCell-start k = rw k
+
+  pub inCell-cancel : q .kind ≡ cancelOrKill → inCell q ps ≡ cancel q ps
+  unfolding inCell
+  inCell-cancel k = rw k
+
+  pub inCell-restart : q .kind ≡ restartKind → inCell q ps ≡ restart ps
+  unfolding inCell
+  inCell-restart k = rw k
+
+  pub inCell-failure : q .kind ≡ failureKind → inCell q ps ≡ failure ps
+  unfolding inCell
+  inCell-failure k = rw k
+
+  pub inCell-second : q .kind ≡ oneSecond → inCell q ps ≡ second ps
+  unfolding inCell
+  inCell-second k = rw k
+
+-- ---- by kind
+
+-- of the known kinds only a second is left
+only-second : (k : ℕ) → eqb k writeReplace ≡ false → eqb k cancelOrKill ≡ false → eqb k restartKind ≡ false → eqb k failureKind ≡ false → KnownKind k → k ≡ oneSecond
+only-second k a b c d (starts e) = absurd (eqb-false k writeReplace a e)
+only-second k a b c d (cancels e) = absurd (eqb-false k cancelOrKill b e)
+only-second k a b c d (restarts e) = absurd (eqb-false k restartKind c e)
+only-second k a b c d (fails e) = absurd (eqb-false k failureKind d e)
+only-second k a b c d (passes e) = e
+
+-- what holds of each rule's outcome holds of the cell's
+pub inCell-by : (P : Done → Type 0) (q : Request) (ps : List Place) → (q .kind ≡ writeReplace → P (start q ps)) → P (cancel q ps) → P (restart ps) → P (failure ps)
+    → ((KnownKind (q .kind) → q .kind ≡ oneSecond) → P (second ps))
+    → P (inCell q ps)
+unfolding inCell
+inCell-by P q ps begins stops empties drops ages =
+    cond-either P (eqb (q .kind) writeReplace) _ _ (λ a. begins (eqb-true (q .kind) writeReplace a)) λ a.
+    cond-either P (eqb (q .kind) cancelOrKill) _ _ (λ b. stops) λ b.
+    cond-either P (eqb (q .kind) restartKind) _ _ (λ c. empties) λ c.
+    cond-either P (eqb (q .kind) failureKind) _ _ (λ d. drops) (λ d. ages (only-second (q .kind) a b c d))
+
+-- ---- an accepted request
+
+module _ (q : Request) (items : List ℕ) (f : fitRequest q ≡ true) (v : requestVerdict q items ≡ Accepted) (ps : List Place) (s : soundPlaces ps ≡ true) where
+  pub inCell-sound : soundPlaces (inCell q ps .places) ≡ true
+  inCell-sound =
+      inCell-by (λ d. soundPlaces (d .places) ≡ true) q ps
+      (λ k. start-sound q items f (request-accepted q items v .limits) k ps s)
+      (cancel-sound q ps s)
+      (restart-sound ps)
+      (failure-sound ps)
+      (λ k. second-sound ps s)
+
+  -- the room that document 01 asks for is enough
+  pub inCell-few : length (inCell q ps .rows) ≤ rowsPerCell (q .kind)
+  inCell-few =
+      let h = places-facts ps s in
+      let one : 1 ≤ rowsPerCell (q .kind) = cond-either (λ n. 1 ≤ n) (eqb (q .kind) oneSecond) placesPerCell 1 (λ e. omega arith) (λ e. omega arith) in
+      inCell-by (λ d. length (d .rows) ≤ rowsPerCell (q .kind)) q ps
+      (λ k. omega (arith, start-few q ps))
+      (omega (arith, cancel-few q ps (h .apart)))
+      (omega (arith, restart-few ps))
+      (omega (arith, failure-few ps))
+      (λ k. rw (k (kind-known q (request-accepted q items v .kind))) (omega (arith, second-few ps)))
+
+-- ---- the numbers of a row
+
+abbrev pub toldFits : Told → Bool
+toldFits x = ltb (x .count) (256 ^ 2) && ltb (x .content) (256 ^ 4)
+
+told-fits : (n c : ℕ) → n ≤ mostSent → c < 256 ^ 4 → toldFits (record { count = n; content = c }) ≡ true
+told-fits n c h g = rw (lt-ltb n (256 ^ 2) (omega arith), lt-ltb c (256 ^ 4) g)
+
+abbrev AllFit : List Told → Type 0
+AllFit rows = every toldFits rows ≡ true
+
+none-fit : AllFit []
+unfolding every
+none-fit = refl
+
+zero-fits : AllFit (reported 0)
+unfolding every
+zero-fits = refl
+
+-- rows of those places that a test picks
+picked-fit : (test : Place → Bool) (told : Place → Told) → ((p : Place) → SoundPlace p → toldFits (told p) ≡ true) → (ps : List Place) → soundPlaces ps ≡ true
+    → AllFit (flatMap (λ p. cond (test p) (told p ∷ []) []) ps)
+picked-fit test told k ps s =
+    every-flatMap _ soundPlace toldFits ps (λ p e. every-cond toldFits (test p) (told p) (λ t. k p (sound-facts p e))) (places-facts ps s .each)
+
+pub inCell-rows-fit : (q : Request) (ps : List Place) → soundPlaces ps ≡ true → every toldFits (inCell q ps .rows) ≡ true
+unfolding cancel restart failure second
+inCell-rows-fit q ps s =
+    let Fit : Done → Type 0 = λ d. AllFit (d .rows) in
+    let live = live-rows AllFit none-fit zero-fits ps in
+    inCell-by Fit q ps (λ k. start-rows AllFit none-fit zero-fits q ps)
+    (cond-either Fit (cancelAll q) _ _ (λ a. live) (λ a. picked-fit (isText (q .identifier) (q .serial)) _ (λ p h. told-fits (p .sent .0) 0 (omega arith) (omega arith)) ps s))
+    zero-fits
+    live
+    (λ k. picked-fit isDue _ (λ p h. told-fits (later p .sent .0) (p .content) (later-most p (omega arith)) (h .content)) ps s)
