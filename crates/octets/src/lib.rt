@@ -17,6 +17,7 @@ ghost use lib.Seq.{sets};
 ghost use Rattle.octets.specs.Runs.{gets};
 ghost use Rattle.octets.specs.Numbers.{be, toBe};
 
+// Reads: the number that the bytes at an index say.
 pub fn get8(s: &[u8], at: usize) -> u8
     requires { ⌜ at + 1 ≤ length (now s) ⌝ }
     ensures { λ r. ⌜ r ≡ be (gets (now (s .entry)) at 1) ⌝ }
@@ -52,6 +53,7 @@ pub fn get64(s: &[u8], at: usize) -> u64
     turn64(load64(s, at))
 }
 
+// Writes: the bytes of a number at an index; every other byte stays.
 pub fn put8(s: &mut [u8], at: usize, x: u8)
     requires { ⌜ at + 1 ≤ length (now s) ⌝ }
     ensures { λ _. ⌜ now (s .exit) ≡ sets (now (s .entry)) at (toBe 1 x) ⌝ }
@@ -66,6 +68,7 @@ pub fn put16(s: &mut [u8], at: usize, x: u16)
     store16(s, at, turn16(x));
 }
 
+// A number of more than 24 bits would lose its upper byte, so the caller shows that it has none.
 pub fn put24(s: &mut [u8], at: usize, x: u32)
     requires { ⌜ at + 3 ≤ length (now s) ⌝ }
     requires { ⌜ x < 16777216 ⌝ }
@@ -89,7 +92,7 @@ pub fn put64(s: &mut [u8], at: usize, x: u64)
     store64(s, at, turn64(x));
 }
 
-// All of `from`, stored from an index on.
+// All of `from`, stored from an index on; every other byte stays.
 pub fn copy(to: &mut [u8], at: usize, from: &[u8])
     requires { ⌜ at + length (now from) ≤ length (now to) ⌝ }
     ensures { λ _. ⌜ now (to .exit) ≡ sets (now (to .entry)) at (now (from .entry)) ⌝ }

@@ -14,6 +14,7 @@ fn wide(x: u8) -> u16
     x as u16
 }
 
+// The number that the bytes at an index say.
 pub fn load16(s: &[u8], at: usize) -> u16
     requires { ⌜ at + 2 ≤ length (now s) ⌝ }
     ensures { λ r. ⌜ r ≡ le (gets (now (s .entry)) at 2) ⌝ }
@@ -35,6 +36,7 @@ pub fn load64(s: &[u8], at: usize) -> u64
     (load32(s, at + 4) as u64) * 4294967296 + (load32(s, at) as u64)
 }
 
+// The bytes of a number at an index; every other byte stays.
 pub fn store16(s: &mut [u8], at: usize, x: u16)
     requires { ⌜ at + 2 ≤ length (now s) ⌝ }
     ensures { λ _. ⌜ now (s .exit) ≡ sets (now (s .entry)) at (toLe 2 x) ⌝ }
