@@ -12,7 +12,7 @@ use Rattle.octets.proofs.RunsLaws.{sets-front}
 use Rattle.rules.specs.Layout.{recordSize, itemSize}
 use Rattle.rules.specs.Record.{requestOf, itemsOf, itemCount, recordBytes}
 use Rattle.rules.specs.Refusals.{recordVerdict, writeVerdict}
-use Rattle.rules.specs.Applied.{Filled, Reading, fill, written, reading, readOf}
+use Rattle.rules.specs.Applied.{Filled, ReadOutcome, fill, written, reading, readOf}
 use Rattle.rules.specs.Sound.{fitRequest}
 use Rattle.rules.specs.declared.Request.{Request}
 use Rattle.rules.specs.declared.Verdict.the-variants.{Accepted}

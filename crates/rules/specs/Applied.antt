@@ -1,16 +1,23 @@
 -- What each entry point leaves behind, whole: the number, the length and every byte of every lent buffer.
 use mathlib.Core.Bool.{cond}
 use mathlib.Core.List.{List, [], _∷_, map, flatMap}
-use Prim.Native.Nat.{ℕ}
+use Prim.Native.Nat.{ℕ, _+_, _*_}
+use lib.Dec.{leb}
 use lib.ListN.{length}
 use lib.Seq.{sets}
+use Rattle.octets.specs.Runs.{gets}
+use Rattle.octets.specs.Numbers.{be}
+use Rattle.rules.specs.Layout.{recordSize, itemSize}
 use Rattle.rules.specs.Table.{Cell, headOf, cellsOf, tableBytes}
 use Rattle.rules.specs.Record.{requestOf, itemCount, itemsOf, recordBytes}
 use Rattle.rules.specs.Reach.{reaches}
 use Rattle.rules.specs.InCell.{Told, inCell}
 use Rattle.rules.specs.Answer.{Row, answerBytes}
-use Rattle.rules.specs.Refusals.{numberOf, headRuns, recordVerdict, writeVerdict, applyVerdict, buildVerdict}
+use Rattle.rules.specs.Refusals.{numberOf, answerNumber, answerLength, headRuns, recordVerdict, writeVerdict, applyVerdict, buildVerdict}
 use Rattle.rules.specs.declared.Request.{Request}
+use Rattle.rules.specs.declared.Answer.{Answer}
+use Rattle.rules.specs.declared.Reading.{Reading}
+use Rattle.rules.specs.declared.Reading.the-variants.{Fields, Unread}
 use Rattle.rules.specs.declared.Verdict.{Verdict}
 use Rattle.rules.specs.declared.Verdict.the-variants.{Accepted, Refused}
 
@@ -26,6 +33,10 @@ unfoldable pub fill : Verdict → List ℕ → List ℕ → Filled
 fill Accepted bs buffer = record { number = 0; length = length bs; buffer = sets buffer 0 bs }
 fill (Refused x) bs buffer = record { number = numberOf x; length = 0; buffer = buffer }
 
+-- what an answer, and the buffer that it leaves, say
+abbrev pub filledBy : Answer → List ℕ → Filled
+filledBy x buffer = record { number = answerNumber x; length = answerLength x; buffer = buffer }
+
 unfoldable pub emptyCell : List ℕ → Cell
 emptyCell b = record { head = headOf b; places = [] }
 
@@ -38,7 +49,7 @@ written q items buffer = fill (writeVerdict q items (length buffer)) (recordByte
 
 -- ---- a record is read
 
-pub record Reading : Type 0 where
+pub record ReadOutcome : Type 0 where
   pub number : ℕ
   pub request : Request
   pub items : ℕ
@@ -58,12 +69,22 @@ noRequest =
     }
 
 -- the fields and the count of items; all 0 if refused
-unfoldable pub reading : Verdict → List ℕ → Reading
+unfoldable pub reading : Verdict → List ℕ → ReadOutcome
 reading Accepted r = record { number = 0; request = requestOf r; items = itemCount r }
 reading (Refused x) r = record { number = numberOf x; request = noRequest; items = 0 }
 
-unfoldable pub readOf : List ℕ → Reading
+unfoldable pub readOf : List ℕ → ReadOutcome
 readOf r = reading (recordVerdict r) r
+
+-- what a reading says: document 01's number and values for each of its cases
+abbrev pub readBy : Reading → ReadOutcome
+readBy (Fields q n) = record { number = 0; request = q; items = n }
+readBy (Unread x) = record { number = numberOf x; request = noRequest; items = 0 }
+
+-- the k-th item as a number, 0 where the record ends before it
+unfoldable pub itemAt : List ℕ → ℕ → ℕ
+itemAt r k =
+    cond (leb (recordSize + itemSize * (k + 1)) (length r)) (be (gets r (recordSize + itemSize * k) itemSize)) 0
 
 -- ---- a request is applied
 

@@ -6,8 +6,10 @@ ghost use Rattle.rules.specs.Refusals.{numberOf, verdictNumber, answerNu
 pub mod layout;
 
 // "A count of seconds never stands where a count of broadcasts is meant": each has a type of its own.
+#[repr(C)]
 pub struct Seconds(pub u32);
 
+#[repr(C)]
 pub struct Broadcasts(pub u16);
 
 // A live place of a cell.
@@ -23,6 +25,7 @@ pub struct Place {
 }
 
 // A request without its items: what the reader returns of a record, and what the writer takes.
+#[repr(C)]
 pub struct Request {
     pub kind: u8,
     pub flags: u8,
@@ -107,6 +110,12 @@ impl Answer {
             Answer::Nothing(_) => 0,
         }
     }
+}
+
+// What the reader answers: the fields and the count of items, or why there are none.
+pub enum Reading {
+    Fields(Request, usize),
+    Unread(Refusal),
 }
 
 // NR CGI: a 24-bit PLMN, then 36 bits.
