@@ -116,6 +116,9 @@ part-sets (v ∷ vs) l a k i h =
 pub sets-front : (l xs : List ℕ) → length xs ≤ length l → sets l 0 xs ≡ xs ++ drop (length xs) l
 sets-front l xs h = rw zero-add at (sets-eq xs l 0 (omega arith))
 
+pub take-sets-front : (l xs : List ℕ) → length xs ≤ length l → take (length xs) (sets l 0 xs) ≡ xs
+take-sets-front l xs h = rw (sets-front l xs h) (take-at xs (drop (length xs) l) (length xs) refl)
+
 -- ---- pieces of one size
 
 pub length-pieces : (w n : ℕ) (l : List ℕ) → length (pieces w n l) ≡ n

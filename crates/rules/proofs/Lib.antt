@@ -18,3 +18,6 @@ pub mod CellCodec
 pub mod TableCodec
 pub mod SecondLaws
 pub mod InCellLaws
+pub mod StepLaws
+pub mod AppliedLaws
+pub mod BuiltLaws

@@ -49,7 +49,7 @@ length-itemsOf r =
 -- ---- the head of a record
 
 module _ (r : List ℕ) (mark : field recordFields 0 r ≡ recordMark) (version : field recordFields 1 r ≡ recordVersion) (zero : zeroByte r ≡ 0) where
-  numbers-back : requestNumbers (requestOf r) (itemCount r) ≡ numbers recordFields r
+  pub numbers-back : requestNumbers (requestOf r) (itemCount r) ≡ numbers recordFields r
   unfolding requestNumbers requestOf field numbers
   numbers-back = rw (mark, version, zero)
 

@@ -5,10 +5,10 @@ use mathlib.Core.Bool.{true}
 use mathlib.Core.List.{List, [], _∷_, _++_}
 use Prim.Native.Nat.{ℕ, _+_, _*_, _≤_}
 use native.Mathlib.Omega.{arith}
-use lib.ListN.{length, take, drop}
-use lib.Seq.{sets, take-at}
+use lib.ListN.{length, take}
+use lib.Seq.{sets}
 use Rattle.octets.specs.Runs.{Bytes}
-use Rattle.octets.proofs.RunsLaws.{sets-front}
+use Rattle.octets.proofs.RunsLaws.{take-sets-front}
 use Rattle.rules.specs.Layout.{recordSize, itemSize}
 use Rattle.rules.specs.Record.{requestOf, itemsOf, itemCount, recordBytes}
 use Rattle.rules.specs.Refusals.{recordVerdict, writeVerdict}
@@ -19,10 +19,6 @@ use Rattle.rules.specs.declared.Verdict.the-variants.{Accepted}
 use Rattle.rules.proofs.RecordCodec.{record-back, length-itemsOf}
 use Rattle.rules.proofs.RecordTrips.{AcceptedRecord, record-accepted, accepted-record, AcceptedWriting, writing-accepted, accepted-writing, length-recordBytes, record-written, items-read, request-read}
 use Rattle.rules.proofs.OutcomeLaws.{written-accepted, read-accepted}
-
--- the bytes at the start of a buffer that holds them
-front : (l xs : List ℕ) → length xs ≤ length l → take (length xs) (sets l 0 xs) ≡ xs
-front l xs h = rw (sets-front l xs h) (take-at xs (drop (length xs) l) (length xs) refl)
 
 pub record WrittenRecord (q : Request) (items buffer : List ℕ) : Type 0 where
   pub size : written q items buffer .length ≡ recordSize + itemSize * length items
@@ -37,7 +33,7 @@ write-read q items buffer fit e =
     let a = writing-accepted q items (length buffer) v in
     let n = length-recordBytes q items fit (a .few) in
     let f : take (length (recordBytes q items)) (sets buffer 0 (recordBytes q items)) ≡ recordBytes q items =
-    front buffer (recordBytes q items) (omega arith) in
+    take-sets-front buffer (recordBytes q items) (omega arith) in
     let w : recordVerdict (recordBytes q items) ≡ Accepted =
     accepted-record (recordBytes q items) (record-written q items fit (a .few) (a .request)) in
     let r = request-read q items fit (a .few) (a .request) in

@@ -8,7 +8,7 @@ use lib.Seq.{sets}
 use Rattle.octets.specs.Runs.{gets}
 use Rattle.octets.specs.Numbers.{be}
 use Rattle.rules.specs.Layout.{recordSize, itemSize}
-use Rattle.rules.specs.Table.{Cell, headOf, cellsOf, tableBytes}
+use Rattle.rules.specs.Table.{Cell, headOf, cellOf, cellBytes, cellsOf, tableBytes}
 use Rattle.rules.specs.Record.{requestOf, itemCount, itemsOf, recordBytes}
 use Rattle.rules.specs.Reach.{reaches}
 use Rattle.rules.specs.InCell.{Told, inCell}
@@ -92,6 +92,11 @@ itemAt r k =
 unfoldable pub stepCell : Request → List ℕ → Cell → Cell
 stepCell q items c =
     cond (reaches (q .area) items (c .head)) (record { head = c .head; places = inCell q (c .places) .places }) c
+
+-- the same of a cell's bytes: a reached cell is decoded, changed and encoded, any other keeps every byte
+unfoldable pub cellAfter : Request → List ℕ → List ℕ → List ℕ
+cellAfter q items c =
+    cond (reaches (q .area) items (cellOf c .head)) (cellBytes (stepCell q items (cellOf c))) c
 
 abbrev pub rowOf : Cell → Told → Row
 rowOf c x = record { identity = c .head .identity; count = x .count; content = x .content }
