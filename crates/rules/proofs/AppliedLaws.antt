@@ -16,7 +16,7 @@ use Rattle.rules.specs.Layout.{headerSize, cellSize, recordFields, recor
 use Rattle.rules.specs.Table.{Cell, cellOf, cellBytes, legalCell, cellCount, cellRuns, cellsOf, headerBytes, tableBytes}
 use Rattle.rules.specs.Record.{requestOf, requestNumbers, itemCount, itemsOf}
 use Rattle.rules.specs.Reach.{reaches}
-use Rattle.rules.specs.Answer.{Row, rowBytes, answerBytes, rowsPerCell, roomFor}
+use Rattle.rules.specs.Answer.{Row, rowBytes, answerHead, answerBytes, rowsPerCell, roomFor}
 use Rattle.rules.specs.Refusals.{tableVerdict, requestVerdict, recordVerdict, applyVerdict}
 use Rattle.rules.specs.Applied.{stepCell, cellAfter, cellRows, outcome, applied}
 use Rattle.rules.specs.Sound.{fits, fitRequest, soundCell, soundCells}
@@ -77,10 +77,14 @@ pub length-rowBytes : (w : Row) → length (rowBytes w) ≡ rowSize
 unfolding rowBytes
 length-rowBytes w = length-written rowFields (w .identity ∷ w .count ∷ w .content ∷ []) refl ∙ row-size
 
+pub length-answerHead : (q : Request) (n : ℕ) → length (answerHead q n) ≡ answerSize
+unfolding answerHead
+length-answerHead q n =
+    length-written answerFields (answerMark ∷ answerVersion ∷ q .kind ∷ q .identifier ∷ q .serial ∷ n ∷ []) refl ∙ answer-size
+
 pub length-answerBytes : (q : Request) (rows : List Row) → length (answerBytes q rows) ≡ answerSize + rowSize * length rows
 unfolding answerBytes
-length-answerBytes q rows =
-    rw (length-append, length-written answerFields (answerMark ∷ answerVersion ∷ q .kind ∷ q .identifier ∷ q .serial ∷ length rows ∷ []) refl, answer-size, length-flatMap rowSize rowBytes rows length-rowBytes)
+length-answerBytes q rows = rw (length-append, length-answerHead, length-flatMap rowSize rowBytes rows length-rowBytes)
 
 -- ---- a cell's bytes
 

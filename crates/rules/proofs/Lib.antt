@@ -1,5 +1,6 @@
 pub mod ListsLaws
 pub mod AllLaws
+pub mod JoinedLaws
 pub mod LayoutLaws
 pub mod RecordCodec
 pub mod RecordTrips
@@ -21,3 +22,8 @@ pub mod InCellLaws
 pub mod StepLaws
 pub mod AppliedLaws
 pub mod BuiltLaws
+pub mod AppliedRuns
+pub mod ZerosLaws
+pub mod OffsetLaws
+pub mod FieldLaws
+pub mod OnceLaws

@@ -11,13 +11,13 @@ use Rattle.rules.specs.Table.{headOf, headNumbers, headBytes, legalHead,
 use Rattle.rules.specs.Record.{requestOf, itemsOf, recordMarked, row, kindAllows, areaFits, withinLimits, cancelsNothing}
 use Rattle.rules.specs.Reach.{names, reaches}
 use Rattle.rules.specs.InCell.{reportedIfLive, startsNothing, newPlace, start, cancel, restart, failure, isDue, oneMore, withCounts, later, hasEnded, staysLive, second, inCell}
-use Rattle.rules.specs.Answer.{rowBytes, answerBytes, roomFor}
+use Rattle.rules.specs.Answer.{rowBytes, answerHead, answerBytes, roomFor}
 use Rattle.rules.specs.Refusals.{tableVerdict, requestVerdict, recordVerdict, applyVerdict, legalHeads, buildVerdict}
 use Rattle.rules.specs.Applied.{fill, emptyCell, built, stepCell, cellRows, outcome, applied}
 use Rattle.rules.specs.Samples.{SamplesHold}
 
 pub samples-hold : SamplesHold
-unfolding flatMap gets pieces be toBe size numbers bytesOf filled every any those zeros oneOf above ascending field headOf headNumbers headBytes legalHead placeOf placeNumbers placeBytes isFree isLive liveFirst placesOf legalPlace isText running different legalPlaces cellOf placesBytes cellBytes legalCell cellsOf headerBytes tableBytes tableMarked legalTable requestOf itemsOf recordMarked row kindAllows areaFits withinLimits cancelsNothing names reaches reportedIfLive startsNothing newPlace start cancel restart failure isDue oneMore withCounts later hasEnded staysLive second inCell rowBytes answerBytes roomFor tableVerdict requestVerdict recordVerdict applyVerdict stepCell cellRows outcome applied legalHeads buildVerdict fill emptyCell built
+unfolding flatMap gets pieces be toBe size numbers bytesOf filled every any those zeros oneOf above ascending field headOf headNumbers headBytes legalHead placeOf placeNumbers placeBytes isFree isLive liveFirst placesOf legalPlace isText running different legalPlaces cellOf placesBytes cellBytes legalCell cellsOf headerBytes tableBytes tableMarked legalTable requestOf itemsOf recordMarked row kindAllows areaFits withinLimits cancelsNothing names reaches reportedIfLive startsNothing newPlace start cancel restart failure isDue oneMore withCounts later hasEnded staysLive second inCell rowBytes answerHead answerBytes roomFor tableVerdict requestVerdict recordVerdict applyVerdict stepCell cellRows outcome applied legalHeads buildVerdict fill emptyCell built
 samples-hold =
     record {
       marked = (refl, (refl, (refl, (refl, (refl, (refl, (refl, (refl, (refl, (refl, (refl, (refl, (refl, (refl, tt))))))))))))));

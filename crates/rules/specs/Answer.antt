@@ -17,10 +17,13 @@ pub record Row : Type 0 where
 unfoldable pub rowBytes : Row → List ℕ
 rowBytes w = bytesOf rowFields (w .identity ∷ w .count ∷ w .content ∷ [])
 
+-- the head, for so many rows
+unfoldable pub answerHead : Request → ℕ → List ℕ
+answerHead q rows =
+    bytesOf answerFields (answerMark ∷ answerVersion ∷ q .kind ∷ q .identifier ∷ q .serial ∷ rows ∷ [])
+
 unfoldable pub answerBytes : Request → List Row → List ℕ
-answerBytes q rows =
-    bytesOf answerFields (answerMark ∷ answerVersion ∷ q .kind ∷ q .identifier ∷ q .serial ∷ length rows ∷ [])
-    ++ flatMap rowBytes rows
+answerBytes q rows = answerHead q (length rows) ++ flatMap rowBytes rows
 
 -- a cell gives one row at most, and one second a row for each of its places
 abbrev pub rowsPerCell : ℕ → ℕ

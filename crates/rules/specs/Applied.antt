@@ -111,6 +111,10 @@ pub record Outcome : Type 0 where
   pub table : List ℕ
   pub answer : List ℕ
 
+-- what an answer, and both buffers that it leaves, say
+abbrev pub outcomeBy : Answer → List ℕ → List ℕ → Outcome
+outcomeBy x t a = record { number = answerNumber x; length = answerLength x; table = t; answer = a }
+
 -- refused: both buffers as they were; accepted: the cells after the rule, and the answer at the start of its buffer
 unfoldable pub outcome : Verdict → Request → List ℕ → List ℕ → List ℕ → Outcome
 outcome (Refused x) q items t a = record { number = numberOf x; length = 0; table = t; answer = a }

@@ -104,3 +104,17 @@ pub const ANSWER: usize = 12;
 pub const ROW: usize = 14;
 
 pub const ANSWER_VERSION: u16 = 1;
+
+// Offsets in an answer's head.
+pub const ANSWER_KIND_AT: usize = 5;
+
+pub const ANSWER_IDENTIFIER_AT: usize = 6;
+
+pub const ANSWER_SERIAL_AT: usize = 8;
+
+pub const ROWS_AT: usize = 10;
+
+// Offsets in a row.
+pub const COUNT_IN_ROW_AT: usize = 8;
+
+pub const CONTENT_IN_ROW_AT: usize = 10;

@@ -1,0 +1,61 @@
+-- Document 01's numbers and values settle the answer: no two refusals, answers or readings say the same.
+-- A refusal is found again by its number; a length or a request only comes with the number 0.
+use mathlib.Core.Path.{_≡_, refl, sym, ap, _∙_}
+use mathlib.Core.List.{List, [], _∷_}
+use Prim.Native.Nat.{ℕ}
+use native.Mathlib.Omega.{arith}
+use lib.ListN.{getD}
+use Rattle.rules.specs.Refusals.{numberOf, answerNumber, answerLength}
+use Rattle.rules.specs.Applied.{Filled, ReadOutcome, filledBy, readBy}
+use Rattle.rules.specs.declared.Request.{Request}
+use Rattle.rules.specs.declared.Refusal.{Refusal}
+use Rattle.rules.specs.declared.Refusal.the-variants.{TableMark, TableWrong, RecordMark, RecordLength, RecordFields, RecordLimits, CancelsNothing, ShortBuffer, BadHeads}
+use Rattle.rules.specs.declared.Answer.{Answer}
+use Rattle.rules.specs.declared.Answer.the-variants.{Written, Nothing}
+use Rattle.rules.specs.declared.Reading.{Reading}
+use Rattle.rules.specs.declared.Reading.the-variants.{Fields, Unread}
+use Rattle.rules.proofs.OutcomeLaws.{number-positive}
+
+-- the refusal with a number; none has 0
+numbered : ℕ → Refusal
+numbered n =
+    getD (TableMark ∷ TableMark ∷ TableWrong ∷ RecordMark ∷ RecordLength ∷ RecordFields ∷ RecordLimits ∷ CancelsNothing ∷ ShortBuffer ∷ BadHeads ∷ []) n TableMark
+
+numbered-number : (x : Refusal) → numbered (numberOf x) ≡ x
+unfolding numbered
+numbered-number TableMark = refl
+numbered-number TableWrong = refl
+numbered-number RecordMark = refl
+numbered-number RecordLength = refl
+numbered-number RecordFields = refl
+numbered-number RecordLimits = refl
+numbered-number CancelsNothing = refl
+numbered-number ShortBuffer = refl
+numbered-number BadHeads = refl
+
+pub number-injective : (x y : Refusal) → numberOf x ≡ numberOf y → x ≡ y
+number-injective x y e = sym (numbered-number x) ∙ ap numbered e ∙ numbered-number y
+
+pub answer-injective : (x y : Answer) → answerNumber x ≡ answerNumber y → answerLength x ≡ answerLength y → x ≡ y
+answer-injective (Written m) (Written n) e l = ap Written l
+answer-injective (Written m) (Nothing y) e l = absurd (omega (arith, number-positive y))
+answer-injective (Nothing x) (Written n) e l = absurd (omega (arith, number-positive x))
+answer-injective (Nothing x) (Nothing y) e l = ap Nothing (number-injective x y e)
+
+-- an answer and the buffer that it leaves
+pub filled-injective : (x y : Answer) (a b : List ℕ) → filledBy x a ≡ filledBy y b → (x ≡ y) × (a ≡ b)
+filled-injective x y a b e =
+    (answer-injective x y (ap (λ (f : Filled). f .number) e) (ap (λ (f : Filled). f .length) e), ap (λ (f : Filled). f .buffer) e)
+
+pub reading-injective : (x y : Reading) → readBy x ≡ readBy y → x ≡ y
+reading-injective (Fields p m) (Fields q n) e =
+    let r : p ≡ q = ap (λ (o : ReadOutcome). o .request) e in
+    let i : m ≡ n = ap (λ (o : ReadOutcome). o .items) e in
+    rw (r, i)
+reading-injective (Fields p m) (Unread y) e =
+    let z = ap (λ (o : ReadOutcome). o .number) e in
+    absurd (omega (arith, number-positive y))
+reading-injective (Unread x) (Fields q n) e =
+    let z = ap (λ (o : ReadOutcome). o .number) e in
+    absurd (omega (arith, number-positive x))
+reading-injective (Unread x) (Unread y) e = ap Unread (number-injective x y (ap (λ (o : ReadOutcome). o .number) e))
