@@ -1,0 +1,9 @@
+pub mod ReadLaws
+pub mod PiecesLaws
+pub mod WalkLaws
+pub mod OrderLaws
+pub mod JudgeLaws
+pub mod PlacesLaws
+pub mod BuildLaws
+pub mod BuiltLaws
+pub mod Once

@@ -1,0 +1,64 @@
+-- The pieces of a list from an index on, one more and none: what a walk over cells, heads or places peels off in a turn.
+-- By `drop-drop`; where the last places are written out in code, their pieces are written out too.
+use mathlib.Core.Path.{_≡_, refl}
+use mathlib.Core.Bool.{Bool, _&&_, and-assoc, and-true}
+use mathlib.Core.List.{List, [], _∷_}
+use Prim.Native.Nat.{ℕ, zero, suc, _+_, _*_, _-_, _≤_, _<_}
+use native.Mathlib.Nat.{mul-suc}
+use native.Mathlib.Omega.{arith}
+use lib.ListN.{length, take, drop, length-drop}
+use lib.Seq.{take-all, drop-drop}
+use Rattle.octets.specs.Runs.{gets, pieces}
+use Rattle.octets.proofs.RunsLaws.{gets-eq}
+use Rattle.rules.specs.Lists.{every}
+
+pub pieces-more : (w left at : ℕ) (l : List ℕ) → 0 < left → pieces w left (drop at l) ≡ take w (drop at l) ∷ pieces w (left - 1) (drop (at + w) l)
+unfolding pieces
+pieces-more w zero at l h = absurd (omega arith)
+pieces-more w (suc n) at l h = let e : suc n - 1 ≡ n = omega arith in rw (e, drop-drop w at l)
+
+pub pieces-none : (w left : ℕ) (l : List ℕ) → left ≤ 0 → pieces w left l ≡ []
+unfolding pieces
+pieces-none w zero l h = refl
+pieces-none w (suc n) l h = absurd (omega arith)
+
+-- ---- one to four places of 20 bytes, written out
+
+module _ (f : List ℕ → Bool) (l : List ℕ) (i left : ℕ) (fits : i + 20 * left ≤ length l) where
+  pub every-1 : left ≡ 1 → f (gets l i 20) ≡ every f (pieces 20 left (drop i l))
+  unfolding every pieces
+  every-1 e = rw (e, gets-eq 20 l i (omega arith), and-true)
+
+  pub every-2 : left ≡ 2 → f (gets l i 20) && f (gets l (i + 20) 20) ≡ every f (pieces 20 left (drop i l))
+  unfolding every pieces
+  every-2 e =
+      rw (e, gets-eq 20 l i (omega arith), gets-eq 20 l (i + 20) (omega arith)) (simp (drop-drop, and-true))
+
+  pub every-3 : left ≡ 3 → f (gets l i 20) && f (gets l (i + 20) 20) && f (gets l (i + 40) 20) ≡ every f (pieces 20 left (drop i l))
+  unfolding every pieces
+  every-3 e =
+      let forty : i + 20 + 20 ≡ i + 40 = omega arith in
+      rw (e, gets-eq 20 l i (omega arith), gets-eq 20 l (i + 20) (omega arith), gets-eq 20 l (i + 40) (omega arith))
+      (simp (drop-drop, forty, and-true, and-assoc))
+
+  pub every-4 : left ≡ 4 → f (gets l i 20) && f (gets l (i + 20) 20) && f (gets l (i + 40) 20) && f (gets l (i + 60) 20) ≡ every f (pieces 20 left (drop i l))
+  unfolding every pieces
+  every-4 e =
+      let forty : i + 20 + 20 ≡ i + 40 = omega arith in
+      let sixty : i + 40 + 20 ≡ i + 60 = omega arith in
+      rw (e, gets-eq 20 l i (omega arith), gets-eq 20 l (i + 20) (omega arith), gets-eq 20 l (i + 40) (omega arith), gets-eq 20 l (i + 60) (omega arith))
+      (simp (drop-drop, forty, sixty, and-true, and-assoc))
+
+-- ---- what is lent
+
+-- all from index n on
+pub take-rest : (n : ℕ) (l : List ℕ) → take (length l - n) (drop n l) ≡ drop n l
+take-rest n l = take-all (length l - n) (drop n l) (rw length-drop (omega arith))
+
+-- a turn's piece lies in the list, and the others behind it
+pub piece-fits : (w at left : ℕ) {n : ℕ} → at + w * left ≡ n → 0 < left → (at + w ≤ n) × (at + w + w * (left - 1) ≡ n)
+piece-fits w at zero e h = absurd (omega arith)
+piece-fits w at (suc k) e h =
+    let s : w * suc k ≡ w * k + w = mul-suc w k in
+    let p : suc k - 1 ≡ k = omega arith in
+    rw p (omega arith, omega arith)

@@ -1,0 +1,29 @@
+-- The parts of "a legal table" that one function tests each, where document 01's definitions in `rules` do not name them. Their conjunctions are those definitions.
+use mathlib.Core.Bool.{Bool, _&&_}
+use mathlib.Core.List.{List, map}
+use Prim.Native.Nat.{ℕ, _+_, _*_}
+use lib.Dec.{eqb, leb}
+use lib.ListN.{length, take, drop}
+use Rattle.rules.specs.Lists.{every, zeros, ascending}
+use Rattle.rules.specs.Layout.{field, headerFields, placesPerCell, mostAreas, headerSize, cellSize, mostCells}
+use Rattle.rules.specs.Table.{isLive, placeOf, legalPlace, cellCount, identityAt}
+
+-- at most four are used, the used ones come first and ascend, the rest is zero
+unfoldable pub legalAreas : ℕ → List ℕ → Bool
+legalAreas used areas = leb used mostAreas && ascending (take used areas) && zeros (drop used areas)
+
+-- a place that is no free one
+unfoldable pub legalLive : List ℕ → Bool
+legalLive b = isLive b && legalPlace (placeOf b)
+
+-- the header, mark and version apart, and the exact length
+unfoldable pub legalHeader : List ℕ → Bool
+legalHeader t =
+    (leb 1 (cellCount t) && leb (cellCount t) mostCells)
+    && eqb (field headerFields 3 t) placesPerCell
+    && eqb (field headerFields 4 t) 0
+    && eqb (length t) (headerSize + cellSize * cellCount t)
+
+-- runs of bytes that f finds legal, strictly ascending by NR CGI
+unfoldable pub legalRuns : (List ℕ → Bool) → List (List ℕ) → Bool
+legalRuns f bs = every f bs && ascending (map identityAt bs)
