@@ -1,0 +1,78 @@
+-- The tests of a request as the code makes them are those of the rules: areas by their largest, kinds one after the other, and the order of 5, 6 and 7.
+-- Each is computed, once the tests that decide it are put in.
+use mathlib.Core.Path.{_≡_, refl}
+use mathlib.Core.Bool.{Bool, true, false, cond, not, _&&_, _||_, true≢false, and-true}
+use mathlib.Core.List.{List, [], _∷_}
+use Prim.Native.Nat.{ℕ, zero, suc}
+use native.Mathlib.Omega.{arith}
+use lib.Dec.{eqb, ltb, leb}
+use lib.ListN.{length}
+use borrow.Author.Tests.{lt-leb, ne-eqb, not-true, not-false}
+use Rattle.rules.specs.Lists.{any, every, oneOf, zeros}
+use Rattle.rules.specs.Record.{kindAllows, areaFits, itemEnd, withinLimits, cancelsNothing}
+use Rattle.rules.specs.Refusals.{requestVerdict}
+use Rattle.rules.specs.declared.Request.{Request}
+use Rattle.rules.specs.declared.Refusal.the-variants.{RecordFields, RecordLimits, CancelsNothing}
+use Rattle.rules.specs.declared.Verdict.the-variants.{Accepted, Refused}
+
+pub area-known : (area : ℕ) → leb area 3 ≡ oneOf area (0 ∷ 1 ∷ 2 ∷ 3 ∷ [])
+unfolding oneOf any
+area-known zero = refl
+area-known (suc zero) = refl
+area-known (suc (suc zero)) = refl
+area-known (suc (suc (suc zero))) = refl
+area-known (suc (suc (suc (suc n)))) =
+    let x : ℕ = suc (suc (suc (suc n))) in
+    rw (lt-leb x 3 (omega arith), ne-eqb x 0 (λ e. omega arith), ne-eqb x 1 (λ e. omega arith), ne-eqb x 2 (λ e. omega arith), ne-eqb x 3 (λ e. omega arith))
+
+-- ---- fields that are zero
+
+pub zeros-none : zeros [] ≡ true
+unfolding zeros every
+zeros-none = refl
+
+pub zeros-more : (x : ℕ) (xs : List ℕ) → zeros (x ∷ xs) ≡ eqb x 0 && zeros xs
+unfolding zeros every
+zeros-more x xs = refl
+
+-- zero where a test fails
+pub zeros-unless : (b : Bool) (xs : List ℕ) → zeros (cond b [] xs) ≡ b || zeros xs
+unfolding zeros every
+zeros-unless true xs = refl
+zeros-unless false xs = refl
+
+-- ---- two tests with one answer
+
+pub either-way : {A : Type 0} (a b : Bool) (x y : A) → a || b ≡ true → cond a x (cond b x y) ≡ x
+either-way true b x y e = refl
+either-way false b x y e = rw e
+
+pub neither-way : {A : Type 0} (a b : Bool) (x y : A) → a || b ≡ false → cond a x (cond b x y) ≡ y
+neither-way true b x y e = absurd (true≢false e)
+neither-way false b x y e = rw e
+
+-- ---- 5, 6 and 7 in their order
+
+within-each : (q : Request) (items : List ℕ) → withinLimits q items ≡ withinLimits q [] && every (λ x. ltb x (itemEnd (q .area))) items
+unfolding withinLimits every
+within-each q items = simp and-true
+
+-- of a request with n items, whose limits `small` tells
+module _ (q : Request) (items : List ℕ) {n : ℕ} (e : length items ≡ n) {small : Bool} (s : every (λ x. ltb x (itemEnd (q .area))) items ≡ small) {kind area : Bool} (k : kind ≡ kindAllows q) (a : area ≡ areaFits q n) where
+  pub fields-refused : not (kind && area) ≡ true → Refused RecordFields ≡ requestVerdict q items
+  unfolding requestVerdict
+  fields-refused t = rw (e, ← k, ← a, not-true (kind && area) t)
+
+  module _ (fields : not (kind && area) ≡ false) {text : Bool} (w : text ≡ withinLimits q []) where
+    pub limits-refused : not (text && small) ≡ true → Refused RecordLimits ≡ requestVerdict q items
+    unfolding requestVerdict
+    limits-refused t = rw (e, ← k, ← a, not-false (kind && area) fields, within-each q items, ← w, s, not-true (text && small) t)
+
+    module _ (limits : not (text && small) ≡ false) {nothing : Bool} (z : nothing ≡ cancelsNothing q) where
+      pub cancel-refused : nothing ≡ true → Refused CancelsNothing ≡ requestVerdict q items
+      unfolding requestVerdict
+      cancel-refused t = rw (e, ← k, ← a, not-false (kind && area) fields, within-each q items, ← w, s, not-false (text && small) limits, ← z, t)
+
+      pub request-allowed : nothing ≡ false → Accepted ≡ requestVerdict q items
+      unfolding requestVerdict
+      request-allowed t = rw (e, ← k, ← a, not-false (kind && area) fields, within-each q items, ← w, s, not-false (text && small) limits, ← z, t)

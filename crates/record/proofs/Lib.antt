@@ -1,0 +1,6 @@
+mod JudgeLaws
+mod ReadLaws
+mod WriteLaws
+pub mod Items
+pub mod Trips
+pub mod Once

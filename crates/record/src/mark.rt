@@ -1,0 +1,40 @@
+// What every record begins with: "PWR" and the version.
+ghost use mathlib.Core.Path.{_≡_};
+ghost use mathlib.Core.List.{[], _∷_};
+ghost use Prim.Native.Nat.{_≤_};
+ghost use lib.ListN.{length};
+ghost use lib.Seq.{sets};
+ghost use Rattle.octets.specs.Fields.{bytesOf};
+ghost use Rattle.rules.specs.Layout.{recordFields, recordMark, recordSize, recordVersion};
+ghost use Rattle.rules.specs.Record.{recordMarked};
+use octets::get16;
+use octets::get24;
+use octets::put16;
+use octets::put24;
+use rules::layout::RECORD;
+use rules::layout::RECORD_VERSION;
+
+const MARK: u32 = 0x505752;
+
+const MARK_AT: usize = 0;
+
+const VERSION_AT: usize = 3;
+
+// Bytes long enough for a record, with its mark and version.
+pub fn marked(req: &[u8]) -> bool
+    ensures { λ r. ⌜ r ≡ recordMarked (now (req .entry)) ⌝ }
+{
+    if req.len() < RECORD {
+        return false;
+    }
+    (get24(req, MARK_AT) == MARK) & (get16(req, VERSION_AT) == RECORD_VERSION)
+}
+
+// Stores the fields 0 and 1 of the layout.
+pub fn put_mark(buffer: &mut [u8])
+    requires { ⌜ recordSize ≤ length (now buffer) ⌝ }
+    ensures { λ _. ⌜ now (buffer .exit) ≡ sets (now (buffer .entry)) 0 (bytesOf recordFields (recordMark ∷ recordVersion ∷ [])) ⌝ }
+{
+    put24(buffer, MARK_AT, MARK);
+    put16(buffer, VERSION_AT, RECORD_VERSION);
+}

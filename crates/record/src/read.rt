@@ -1,0 +1,128 @@
+// The reader: whether bytes are an accepted record, and what such a record says. The items stay in the record.
+ghost use mathlib.Core.Path.{_≡_};
+ghost use mathlib.Core.List.{map};
+ghost use Prim.Native.Nat.{_+_, _*_, _≤_};
+ghost use lib.Dec.{ltb};
+ghost use lib.ListN.{length, drop};
+ghost use Rattle.octets.specs.Numbers.{be};
+ghost use Rattle.octets.specs.Runs.{pieces};
+ghost use Rattle.rules.specs.Applied.{itemAt, readBy, readOf};
+ghost use Rattle.rules.specs.Layout.{itemSize, recordSize};
+ghost use Rattle.rules.specs.Lists.{every};
+ghost use Rattle.rules.specs.Record.{itemCount, itemEnd, requestOf};
+ghost use Rattle.rules.specs.Refusals.{recordVerdict};
+use crate::judge::item_end;
+use crate::judge::judged;
+use crate::mark::marked;
+use octets::get8;
+use octets::get16;
+use octets::get32;
+use octets::get64;
+use rules::Broadcasts;
+use rules::Reading;
+use rules::Refusal;
+use rules::Request;
+use rules::Seconds;
+use rules::Verdict;
+use rules::layout::AREA_AT;
+use rules::layout::COUNT_AT;
+use rules::layout::FLAGS_AT;
+use rules::layout::IDENTIFIER_AT;
+use rules::layout::ITEM;
+use rules::layout::KIND_AT;
+use rules::layout::MOST_ITEMS;
+use rules::layout::RECORD;
+use rules::layout::RECORD_CONTENT_AT;
+use rules::layout::RECORD_PERIOD_AT;
+use rules::layout::RECORD_REQUESTED_AT;
+use rules::layout::RECORD_SIB_AT;
+use rules::layout::SERIAL_AT;
+use rules::layout::ZERO_AT;
+
+// The fields of a record.
+pub fn request(req: &[u8]) -> Request
+    requires { ⌜ recordSize ≤ length (now req) ⌝ }
+    ensures { λ r. ⌜ r ≡ requestOf (now (req .entry)) ⌝ }
+{
+    Request {
+        kind: get8(req, KIND_AT),
+        flags: get8(req, FLAGS_AT),
+        area: get8(req, AREA_AT),
+        identifier: get16(req, IDENTIFIER_AT),
+        serial: get16(req, SERIAL_AT),
+        content: get32(req, RECORD_CONTENT_AT),
+        period: Seconds(get32(req, RECORD_PERIOD_AT)),
+        requested: Broadcasts(get16(req, RECORD_REQUESTED_AT)),
+        sib: get8(req, RECORD_SIB_AT),
+    }
+}
+
+// The count of items that a record gives.
+pub fn count(req: &[u8]) -> usize
+    requires { ⌜ recordSize ≤ length (now req) ⌝ }
+    ensures { λ r. ⌜ r ≡ itemCount (now (req .entry)) ⌝ }
+{
+    get16(req, COUNT_AT) as usize
+}
+
+// Whether each of the first n items is small enough for its area.
+fn items_small(req: &[u8], n: usize, area: u8) -> bool
+    requires { ⌜ recordSize + itemSize * n ≤ length (now req) ⌝ }
+    ensures { λ r. ⌜ r ≡ every (λ x. ltb x (itemEnd area)) (map be (pieces itemSize n (drop recordSize (now (req .entry))))) ⌝ }
+{
+    let end = item_end(area);
+    let mut at = RECORD;
+    let mut left = n;
+    while 0 < left {
+        if end <= get64(req, at) {
+            return false;
+        }
+        at += ITEM;
+        left -= 1;
+    }
+    true
+}
+
+// The first of the refusals 3 to 7 that applies to any bytes.
+pub fn verdict(req: &[u8]) -> Verdict
+    ensures { λ r. ⌜ r ≡ recordVerdict (now (req .entry)) ⌝ }
+{
+    if !marked(req) {
+        return Verdict::Refused(Refusal::RecordMark);
+    }
+    let n = count(req);
+    if MOST_ITEMS < n {
+        return Verdict::Refused(Refusal::RecordLength);
+    }
+    if req.len() != RECORD + ITEM * n {
+        return Verdict::Refused(Refusal::RecordLength);
+    }
+    if get8(req, ZERO_AT) != 0 {
+        return Verdict::Refused(Refusal::RecordFields);
+    }
+    let fields = request(req);
+    judged(fields, n, items_small(req, n, fields.area))
+}
+
+// The fields and the count of items, or why there are none.
+pub fn read(req: &[u8]) -> Reading
+    ensures { λ r. ⌜ readBy r ≡ readOf (now (req .entry)) ⌝ }
+{
+    match verdict(req) {
+        Verdict::Accepted => Reading::Fields(request(req), count(req)),
+        Verdict::Refused(refusal) => Reading::Unread(refusal),
+    }
+}
+
+// The item number k of a record, 0 where the record ends before it.
+pub fn item(req: &[u8], k: usize) -> u64
+    ensures { λ r. ⌜ r ≡ itemAt (now (req .entry)) k ⌝ }
+{
+    if req.len() < RECORD {
+        return 0;
+    }
+    if k < (req.len() - RECORD) / ITEM {
+        return get64(req, RECORD + ITEM * k);
+    }
+    0
+}

@@ -1,0 +1,146 @@
+// The writer: a request and its items as a record at the start of a buffer, or the refusal and nothing written.
+ghost use mathlib.Core.Path.{_≡_};
+ghost use mathlib.Core.List.{flatMap, [], _∷_};
+ghost use Prim.Native.Nat.{_+_, _*_, _≤_};
+ghost use lib.Dec.{ltb};
+ghost use lib.ListN.{length, drop};
+ghost use lib.Seq.{sets};
+ghost use Rattle.octets.specs.Fields.{bytesOf, offset};
+ghost use Rattle.octets.specs.Numbers.{toBe};
+ghost use Rattle.rules.specs.Applied.{filledBy, written};
+ghost use Rattle.rules.specs.Layout.{itemSize, recordFields, recordSize};
+ghost use Rattle.rules.specs.Lists.{every};
+ghost use Rattle.rules.specs.Record.{itemEnd, requestNumbers};
+ghost use Rattle.rules.specs.Refusals.{writeVerdict};
+use crate::judge::item_end;
+use crate::judge::judged;
+use crate::mark::put_mark;
+use octets::put8;
+use octets::put16;
+use octets::put32;
+use octets::put64;
+use rules::Answer;
+use rules::Refusal;
+use rules::Request;
+use rules::Verdict;
+use rules::layout::AREA_AT;
+use rules::layout::COUNT_AT;
+use rules::layout::FLAGS_AT;
+use rules::layout::IDENTIFIER_AT;
+use rules::layout::ITEM;
+use rules::layout::KIND_AT;
+use rules::layout::MOST_ITEMS;
+use rules::layout::RECORD;
+use rules::layout::RECORD_CONTENT_AT;
+use rules::layout::RECORD_PERIOD_AT;
+use rules::layout::RECORD_REQUESTED_AT;
+use rules::layout::RECORD_SIB_AT;
+use rules::layout::SERIAL_AT;
+use rules::layout::ZERO_AT;
+
+// Whether each item is small enough for its area.
+fn items_small(items: &[u64], area: u8) -> bool
+    ensures { λ r. ⌜ r ≡ every (λ x. ltb x (itemEnd area)) (now (items .entry)) ⌝ }
+{
+    let end = item_end(area);
+    let mut k = 0;
+    while k < items.len() {
+        if end <= items[k] {
+            return false;
+        }
+        k += 1;
+    }
+    true
+}
+
+// The first of the refusals 4 (n only), 5, 6, 7 and 8 that applies.
+fn verdict(request: Request, items: &[u64], room: usize) -> Verdict
+    ensures { λ r. ⌜ r ≡ writeVerdict request (now (items .entry)) room ⌝ }
+{
+    let n = items.len();
+    if MOST_ITEMS < n {
+        return Verdict::Refused(Refusal::RecordLength);
+    }
+    match judged(request, n, items_small(items, request.area)) {
+        Verdict::Accepted => {
+            if room < RECORD + ITEM * n {
+                return Verdict::Refused(Refusal::ShortBuffer);
+            }
+            Verdict::Accepted
+        }
+        Verdict::Refused(refusal) => Verdict::Refused(refusal),
+    }
+}
+
+// ---- the fields, by their numbers in the layout
+
+// Fields 2 to 4.
+fn put_kind(buffer: &mut [u8], request: Request)
+    requires { ⌜ recordSize ≤ length (now buffer) ⌝ }
+    ensures { λ _. ⌜ now (buffer .exit) ≡ sets (now (buffer .entry)) (offset recordFields 2) (bytesOf (drop 2 recordFields) (request .kind ∷ request .flags ∷ request .area ∷ [])) ⌝ }
+{
+    put8(buffer, KIND_AT, request.kind);
+    put8(buffer, FLAGS_AT, request.flags);
+    put8(buffer, AREA_AT, request.area);
+}
+
+// Fields 5 to 8.
+fn put_text(buffer: &mut [u8], request: Request)
+    requires { ⌜ recordSize ≤ length (now buffer) ⌝ }
+    ensures { λ _. ⌜ now (buffer .exit) ≡ sets (now (buffer .entry)) (offset recordFields 5) (bytesOf (drop 5 recordFields) (request .identifier ∷ request .serial ∷ request .content ∷ request .period .0 ∷ [])) ⌝ }
+{
+    put16(buffer, IDENTIFIER_AT, request.identifier);
+    put16(buffer, SERIAL_AT, request.serial);
+    put32(buffer, RECORD_CONTENT_AT, request.content);
+    put32(buffer, RECORD_PERIOD_AT, request.period.0);
+}
+
+// Fields 9 to 12.
+fn put_counts(buffer: &mut [u8], request: Request, n: u16)
+    requires { ⌜ recordSize ≤ length (now buffer) ⌝ }
+    ensures { λ _. ⌜ now (buffer .exit) ≡ sets (now (buffer .entry)) (offset recordFields 9) (bytesOf (drop 9 recordFields) (request .requested .0 ∷ request .sib ∷ 0 ∷ n ∷ [])) ⌝ }
+{
+    put16(buffer, RECORD_REQUESTED_AT, request.requested.0);
+    put8(buffer, RECORD_SIB_AT, request.sib);
+    put8(buffer, ZERO_AT, 0);
+    put16(buffer, COUNT_AT, n);
+}
+
+// All of them, the mark and the version in front.
+fn put_fields(buffer: &mut [u8], request: Request, n: u16)
+    requires { ⌜ recordSize ≤ length (now buffer) ⌝ }
+    ensures { λ _. ⌜ now (buffer .exit) ≡ sets (now (buffer .entry)) 0 (bytesOf recordFields (requestNumbers request n)) ⌝ }
+{
+    put_mark(buffer);
+    put_kind(buffer, request);
+    put_text(buffer, request);
+    put_counts(buffer, request, n);
+}
+
+// Every item behind the fields.
+fn put_items(buffer: &mut [u8], items: &[u64])
+    requires { ⌜ recordSize + itemSize * length (now items) ≤ length (now buffer) ⌝ }
+    ensures { λ _. ⌜ now (buffer .exit) ≡ sets (now (buffer .entry)) recordSize (flatMap (toBe itemSize) (now (items .entry))) ⌝ }
+{
+    let mut at = RECORD;
+    let mut k = 0;
+    while k < items.len() {
+        put64(buffer, at, items[k]);
+        at += ITEM;
+        k += 1;
+    }
+}
+
+// The record of a request and its items at the start of the buffer; bytes behind it stay. A refusal writes nothing.
+pub fn write(request: Request, items: &[u64], buffer: &mut [u8]) -> Answer
+    ensures { λ r. ⌜ filledBy r (now (buffer .exit)) ≡ written request (now (items .entry)) (now (buffer .entry)) ⌝ }
+{
+    match verdict(request, items, buffer.len()) {
+        Verdict::Accepted => {
+            put_fields(buffer, request, items.len() as u16);
+            put_items(buffer, items);
+            Answer::Written(RECORD + ITEM * items.len())
+        }
+        Verdict::Refused(refusal) => Answer::Nothing(refusal),
+    }
+}
