@@ -1,0 +1,15 @@
+pub mod Walking
+pub mod Passes
+pub mod WalkFacts
+pub mod HeadLaws
+pub mod ApplyLaws
+pub mod Passing
+pub mod Closing
+pub mod Airing
+pub mod Ticking
+pub mod RowsLaws
+pub mod TextLaws
+pub mod StopLaws
+pub mod ReadyLaws
+pub mod StartLaws
+pub mod KindLaws

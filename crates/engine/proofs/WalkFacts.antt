@@ -1,0 +1,175 @@
+-- The walk's two loops in document 01's words: the search among the items, and a cell that is reached or not.
+-- What a search has still to look through decides; a reached cell's routine leaves the bytes that the rule gives.
+use mathlib.Core.Path.{_≡_, refl, sym, ap, _∙_}
+use mathlib.Core.Bool.{Bool, true, false, cond, _||_}
+use mathlib.Core.List.{List, [], _∷_, _++_, map, flatMap}
+use Prim.Native.Nat.{ℕ, zero, suc, _+_, _*_, _-_, _<_, _≤_}
+use native.Mathlib.Nat.{mul-assoc, mul-le-mul, zero-add}
+use native.Mathlib.Omega.{arith}
+use borrow.Rule.Slice.PartMut.{putMid, midOf}
+use lib.Dec.{eqb}
+use lib.ListN.{length, take, drop, length-drop, length-map}
+use lib.Seq.{sets, drop-drop, length-take-le}
+use Rattle.octets.specs.Runs.{Bytes, gets, pieces}
+use Rattle.octets.specs.Numbers.{be}
+use Rattle.octets.proofs.RunsLaws.{gets-eq, bytes-drop}
+use Rattle.rules.specs.Lists.{any, every}
+use Rattle.rules.specs.Layout.{headerSize, headSize, cellSize, recordSize, itemSize, answerSize, rowSize, placesPerCell, mostCells}
+use Rattle.rules.specs.Table.{headOf, cellOf, cellBytes, legalHead, legalCell, cellCount, cellRuns}
+use Rattle.rules.specs.Record.{noArea, oneSecond, requestOf, itemCount, itemsOf}
+use Rattle.rules.specs.Reach.{names, reaches}
+use Rattle.rules.specs.InCell.{inCell}
+use Rattle.rules.specs.Answer.{Row, rowBytes, rowsPerCell, roomFor}
+use Rattle.rules.specs.Refusals.{applyVerdict}
+use Rattle.rules.specs.Applied.{stepCell, cellAfter, rowOf, cellRows}
+use Rattle.rules.specs.declared.Request.{Request}
+use Rattle.rules.specs.declared.Verdict.the-variants.{Accepted}
+use Rattle.rules.proofs.ListsLaws.{cond-either}
+use Rattle.rules.proofs.CellCodec.{legal-cell}
+use Rattle.rules.proofs.TableCodec.{LegalTable, table-accepted}
+use Rattle.rules.proofs.StepLaws.{step-reached, rows-reached, rows-unreached}
+use Rattle.rules.proofs.RecordTrips.{record-accepted}
+use Rattle.rules.proofs.AppliedLaws.{AcceptedCall, call-accepted}
+use Rattle.cell.specs.Places.{livePlaces, withPlaces}
+use Rattle.cell.proofs.PlacesLaws.{withPlaces-cell}
+use Rattle.engine.specs.Step.{rowsBytes, Ready, Stepped}
+use Rattle.engine.specs.Reach.{namedBy}
+use Rattle.engine.specs.declared.reach.Naming.{Naming}
+use Rattle.engine.specs.Walk.{rowsAfter, tableAfter, WalkIn, WalkOut}
+use Rattle.engine.proofs.Walking.{Going, cell-long, cell-bytes, cell-legal, room-here, skip, step-cell, next-piece}
+
+-- ---- the search among the items
+
+-- the items that the search has still to look through
+abbrev pub itemsFrom : ℕ → ℕ → List ℕ → List ℕ
+itemsFrom from todo r = map be (pieces itemSize todo (drop from r))
+
+module _ (p : ℕ → Bool) (r : List ℕ) (from todo : ℕ) where
+  pub search-none : todo ≤ 0 → any p (itemsFrom from todo r) ≡ false
+  unfolding any pieces
+  search-none h = let z : todo ≡ 0 = omega arith in rw z
+
+  search-next : 0 < todo → from + itemSize * todo ≡ length r
+      → any p (itemsFrom from todo r) ≡ (p (be (gets r from itemSize)) || any p (itemsFrom (from + itemSize) (todo - 1) r))
+  unfolding any
+  search-next h e = rw (next-piece itemSize todo (drop from r) h, drop-drop itemSize from r, gets-eq itemSize r from (omega arith))
+
+  pub search-hit : 0 < todo → from + itemSize * todo ≡ length r → p (be (gets r from itemSize)) ≡ true → any p (itemsFrom from todo r) ≡ true
+  search-hit h e x = search-next h e ∙ rw x
+
+  pub search-miss : 0 < todo → from + itemSize * todo ≡ length r → p (be (gets r from itemSize)) ≡ false
+      → any p (itemsFrom from todo r) ≡ any p (itemsFrom (from + itemSize) (todo - 1) r)
+  search-miss h e x = search-next h e ∙ rw x
+
+pub search-start : (area : ℕ) (r : List ℕ) (n : ℕ) (c : List ℕ) → n ≡ itemCount r
+    → reaches area (itemsOf r) (cellOf c .head) ≡ cond (eqb area noArea) true (any (names area (cellOf c .head)) (itemsFrom recordSize n r))
+unfolding reaches itemsOf
+search-start area r n c e = rw e
+
+-- ---- a cell, by whether it is reached
+
+module _ (q : Request) (items c : List ℕ) where
+  pub after-unreached : reaches (q .area) items (cellOf c .head) ≡ false → (cellAfter q items c ≡ c) × (cellRows q items (cellOf c) ≡ [])
+  unfolding cellAfter
+  after-unreached e = (rw e, rows-unreached q items (cellOf c) e)
+
+  module _ (b : Bytes c) (n : length c ≡ cellSize) (l : legalCell c ≡ true) (e : reaches (q .area) items (cellOf c .head) ≡ true) where
+    pub after-reached : cellAfter q items c ≡ withPlaces c (inCell q (livePlaces c) .places)
+    unfolding cellAfter cellOf
+    after-reached =
+        rw (e, step-reached q items (cellOf c) e)
+        (sym (withPlaces-cell c b n (legal-cell c l .0) (inCell q (livePlaces c) .places)))
+
+    pub rows-of-reached : flatMap rowBytes (cellRows q items (cellOf c)) ≡ rowsBytes c (inCell q (livePlaces c) .rows)
+    unfolding rowsBytes cellOf
+    rows-of-reached = rw (rows-reached q items (cellOf c) e)
+
+    pub count-of-reached : length (cellRows q items (cellOf c)) ≡ length (inCell q (livePlaces c) .rows)
+    unfolding cellOf
+    count-of-reached = rw (rows-reached q items (cellOf c) e) (length-map (inCell q (livePlaces c) .rows) (rowOf (cellOf c)))
+
+-- ---- the walk's own facts: q is the request, items its items, per the rows that a cell may have
+
+abbrev pub GoingOn : Request → List ℕ → List ℕ → List ℕ → ℕ → ℕ → ℕ → ℕ → List ℕ → List ℕ → ℕ → ℕ → ℕ → ℕ → Type 0
+GoingOn q items = Going (cellAfter q items) (λ c. cellRows q items (cellOf c)) (rowsPerCell (q .kind))
+
+pub few-rows : (kind : ℕ) → rowsPerCell kind ≤ placesPerCell
+few-rows kind = cond-either (λ n. n ≤ placesPerCell) (eqb kind oneSecond) placesPerCell 1 (λ _. omega arith) (λ _. omega arith)
+
+module _ (t : List ℕ) (cells : ℕ) (r : List ℕ) (items : ℕ) (q : Request) (new a : List ℕ) (bytes : Bytes t) (w : WalkIn t cells r items q new a) where
+  pub begin : GoingOn q (itemsOf r) (tableAfter q (itemsOf r) t (cellRuns t)) (sets a answerSize (flatMap rowBytes (rowsAfter q (itemsOf r) (cellRuns t))))
+      (length (rowsAfter q (itemsOf r) (cellRuns t))) (placesPerCell * mostCells) (length t) (length a) t a headerSize answerSize 0 cells
+  unfolding tableAfter rowsAfter roomFor
+  begin =
+      let call = call-accepted t r (length a) (w .accepted) in
+      let legal = table-accepted t (call .table) in
+      let n = w .all-cells in
+      let k = rowsPerCell (q .kind) in
+      let kind : rowsPerCell (requestOf r .kind) ≡ k = ap (λ (x : Request). rowsPerCell (x .kind)) (sym (w .request)) in
+      let room : answerSize + rowSize * k * cells ≤ length a = rw (n, ← kind) (call .enough) in
+      let fewer : cells ≤ mostCells = rw n (legal .few) in
+      let most : k * cells ≤ placesPerCell * mostCells = mul-le-mul (few-rows (q .kind)) fewer in
+      record {
+        size = rw n (sym (legal .size));
+        bytes = bytes-drop headerSize t bytes;
+        fine = rw n (legal .cells);
+        place = refl;
+        room = omega (arith, mul-assoc rowSize k cells);
+        few = omega arith;
+        same-t = refl;
+        same-a = refl;
+        table = rw n;
+        count = rw (n, zero-add);
+        answer = rw n;
+      }
+
+module _ (q : Request) (items T A : List ℕ) (R most lt la : ℕ) (t a : List ℕ) (at out rows left : ℕ) (go : GoingOn q items T A R most lt la t a at out rows left) (some : 0 < left) where
+  -- what the cell's routine asks
+  pub asked : (k m : ℕ) → k ≡ cellSize → m ≡ length a - out → Ready (midOf at k t) (midOf out m a) (rowsPerCell (q .kind))
+  asked k m ek em =
+      let long : m ≤ length (drop out a) = rw length-drop (omega arith) in
+      rw ek
+      (record {
+        size = cell-long _ _ _ _ _ _ _ _ _ _ _ _ _ _ _ go some;
+        legal = cell-legal _ _ _ _ _ _ _ _ _ _ _ _ _ _ _ go some;
+        room = rw (length-take-le m (drop out a) long) (omega (arith, room-here _ _ _ _ _ _ _ _ _ _ _ _ _ _ _ go some));
+      })
+
+  -- a cell that is not reached
+  pub passed : reaches (q .area) items (cellOf (take cellSize (drop at t)) .head) ≡ false → GoingOn q items T A R most lt la t a (at + cellSize) out rows (left - 1)
+  passed e =
+      let h = after-unreached q items (take cellSize (drop at t)) e in
+      skip _ _ _ _ _ _ _ _ _ _ _ _ _ _ _ go some (h .0) (h .1)
+
+  -- a cell that is reached, as its routine leaves it
+  stepped-here : reaches (q .area) items (cellOf (take cellSize (drop at t)) .head) ≡ true → (m : ℕ) → m ≡ length a - out → (c′ o′ : List ℕ) (n : ℕ)
+      → Stepped (inCell q (livePlaces (midOf at cellSize t))) (midOf at cellSize t) (midOf out m a) c′ o′ (rowsPerCell (q .kind)) n → length c′ ≡ length (midOf at cellSize t)
+      → GoingOn q items T A R most lt la (putMid at cellSize t c′) (putMid out m a o′) (at + cellSize) (out + rowSize * n) (rows + n) (left - 1)
+  stepped-here e m em c′ o′ n s same =
+      let c : List ℕ = take cellSize (drop at t) in
+      let b : Bytes c = cell-bytes _ _ _ _ _ _ _ _ _ _ _ _ _ _ _ go some in
+      let long : length c ≡ cellSize = cell-long _ _ _ _ _ _ _ _ _ _ _ _ _ _ _ go some in
+      let l : legalCell c ≡ true = cell-legal _ _ _ _ _ _ _ _ _ _ _ _ _ _ _ go some in
+      let new : c′ ≡ cellAfter q items c = s .cell ∙ sym (after-reached q items c b long l e) in
+      let told : o′ ≡ sets (midOf out m a) 0 (flatMap rowBytes (cellRows q items (cellOf c))) =
+      s .rows ∙ ap (sets (midOf out m a) 0) (sym (rows-of-reached q items c b long l e)) in
+      rw told
+      (step-cell _ _ _ _ _ _ _ _ _ _ _ _ _ _ _ go some m em c′ n new (same ∙ long) (s .many ∙ sym (count-of-reached q items c b long l e)) (s .few))
+
+  pub stepped : reaches (q .area) items (cellOf (take cellSize (drop at t)) .head) ≡ true → (k m : ℕ) → k ≡ cellSize → m ≡ length a - out
+      → (c′ o′ : List ℕ) (n : ℕ) → Stepped (inCell q (livePlaces (midOf at k t))) (midOf at k t) (midOf out m a) c′ o′ (rowsPerCell (q .kind)) n → length c′ ≡ length (midOf at k t)
+      → GoingOn q items T A R most lt la (putMid at k t c′) (putMid out m a o′) (at + cellSize) (out + rowSize * n) (rows + n) (left - 1)
+  stepped e k m ek em c′ o′ n s same = rw ek (stepped-here e m em c′ o′ n (rw ek at s) (rw ek at same))
+
+-- ---- an item of the record, and what names the cell
+
+pub items-span : (t : List ℕ) (cells : ℕ) (r : List ℕ) (items : ℕ) (q : Request) (new a : List ℕ) → WalkIn t cells r items q new a
+    → recordSize + itemSize * items ≡ length r
+items-span t cells r items q new a w =
+    rw (w .all-items) (sym (record-accepted r (call-accepted t r (length a) (w .accepted) .req) .size))
+
+pub named-so : (t : List ℕ) (at k area : ℕ) (naming : Naming) → k ≡ cellSize
+    → ((x : ℕ) → namedBy naming x ≡ names area (headOf (take headSize (midOf at k t))) x) → (g x : ℕ) (b : Bool) → b ≡ namedBy naming g → g ≡ x
+    → names area (cellOf (take cellSize (drop at t)) .head) x ≡ b
+unfolding cellOf
+named-so t at k area naming ek h g x b eb eg = sym (eb ∙ h g ∙ rw (ek, eg))

@@ -1,0 +1,75 @@
+-- `verdict` gives the first of the refusals 1 to 8 that applies.
+-- Each way out is its case of `applyVerdict`, by the verdicts that led there.
+use mathlib.Core.Path.{_≡_, sym, ap, _∙_}
+use Prim.Native.Nat.{_≤_, _<_}
+use native.Mathlib.Omega.{arith}
+use Rattle.rules.specs.Record.{requestOf}
+use Rattle.rules.specs.Table.{cellCount}
+use Rattle.rules.specs.Answer.{roomFor}
+use Rattle.engine.proofs.ApplyLaws.{table-refused, record-refused, room-refused, none-refused, long-table, long-record, few-cells}
+use borrow.Author.Needs.{needs}
+use Rattle.engine.proofs.apply.verdict.Statement.{statement}
+use Rattle.engine.proofs.apply.verdict.Tie as tie
+
+verdict-requires : tie.Need-verdict-requires
+verdict-requires c κs = search needs
+
+enum-known-refusal : tie.Need-enum-known-refusal
+enum-known-refusal c = search needs
+
+returns : tie.Need-returns
+returns c = table-refused _ _ _ _ (sym (c .before .before .before .verdict .ensures) ∙ c .before .refusal .given .1)
+
+enum-told : tie.Need-enum-told
+enum-told c = search needs
+
+verdict-requires-2 : tie.Need-verdict-requires-2
+verdict-requires-2 c κs = search needs
+
+enum-known-refusal-2 : tie.Need-enum-known-refusal-2
+enum-known-refusal-2 c = search needs
+
+returns-2 : tie.Need-returns-2
+returns-2 c =
+    record-refused _ _ _ (sym (c .before .before .before .before .before .before .verdict .ensures) ∙ c .before .before .before .before .enum-told .given .1) _ (sym (c .before .before .before .verdict2 .ensures) ∙ c .before .refusal2 .given .1)
+
+enum-told-2 : tie.Need-enum-told-2
+enum-told-2 c = search needs
+
+request-requires : tie.Need-request-requires
+request-requires c κs = long-record _ (sym (c .before .before .verdict2 .ensures) ∙ c .enum-told2 .given .1)
+
+cells-of-requires : tie.Need-cells-of-requires
+cells-of-requires c κs = long-table _ (sym (c .before .before .before .before .before .before .verdict .ensures) ∙ c .before .before .before .before .enum-told .given .1)
+
+room-for-requires : tie.Need-room-for-requires
+room-for-requires c κs =
+    omega (arith, c .cells-of .ensures, few-cells _ (sym (c .before .before .before .before .before .before .before .verdict .ensures) ∙ c .before .before .before .before .before .enum-told .given .1))
+
+returns-3 : tie.Need-returns-3
+returns-3 c =
+    room-refused _ _ _ (sym (c .before .before .before .before .before .before .before .before .before .verdict .ensures) ∙ c .before .before .before .before .before .before .before .enum-told .given .1) (sym (c .before .before .before .before .before .before .verdict2 .ensures) ∙ c .before .before .before .before .enum-told2 .given .1)
+    (rw (← c .before .before .before .request .ensures, ← c .before .before .cells-of .ensures, ← c .before .room-for .ensures) (c .if1 .taken))
+
+returns-4 : tie.Need-returns-4
+returns-4 c =
+    none-refused _ _ _ (sym (c .before .before .before .before .before .before .before .before .before .verdict .ensures) ∙ c .before .before .before .before .before .before .before .enum-told .given .1) (sym (c .before .before .before .before .before .before .verdict2 .ensures) ∙ c .before .before .before .before .enum-told2 .given .1)
+    (rw (← c .before .before .before .request .ensures, ← c .before .before .cells-of .ensures, ← c .before .room-for .ensures) (c .if1 .left))
+
+pub verdict-spec : {M : Type 1} → statement M
+verdict-spec =
+    tie.close
+    (tie.spec
+    verdict-requires
+    enum-known-refusal
+    returns
+    enum-told
+    verdict-requires-2
+    enum-known-refusal-2
+    returns-2
+    enum-told-2
+    request-requires
+    cells-of-requires
+    room-for-requires
+    returns-3
+    returns-4)

@@ -1,0 +1,126 @@
+// One request applied to one table: the tests 1 to 8, the walk, the answer's head.
+ghost use mathlib.Core.Path.{_≡_};
+ghost use mathlib.Core.List.{[]};
+ghost use Prim.Native.Nat.{_≤_};
+ghost use lib.ListN.{length};
+ghost use Rattle.rules.specs.Layout.{headerSize};
+ghost use Rattle.rules.specs.Table.{cellCount};
+ghost use Rattle.rules.specs.InCell.{newPlace};
+ghost use Rattle.rules.specs.Answer.{roomFor};
+ghost use Rattle.rules.specs.Refusals.{applyVerdict};
+ghost use Rattle.rules.specs.Applied.{outcomeBy, applied};
+ghost use Rattle.engine.specs.Walk.{Granted, isIdle};
+ghost use Rattle.rules.specs.declared.Verdict.the-variants.{Accepted};
+use crate::head::put_head;
+use crate::start::starts_nothing;
+use crate::walk::walk;
+use cell::change::place_bytes;
+use octets::get16;
+use record::read::count;
+use record::read::request;
+use rules::Answer;
+use rules::Broadcasts;
+use rules::Place;
+use rules::Refusal;
+use rules::Request;
+use rules::Seconds;
+use rules::Verdict;
+use rules::kind::ONE_SECOND;
+use rules::kind::WRITE_REPLACE;
+use rules::layout::ANSWER;
+use rules::layout::CELLS_AT;
+use rules::layout::PLACES;
+use rules::layout::ROW;
+
+fn cells_of(table: &[u8]) -> usize
+    requires { ⌜ headerSize ≤ length (now table) ⌝ }
+    ensures { λ r. ⌜ r ≡ cellCount (now (table .entry)) ⌝ }
+{
+    get16(table, CELLS_AT) as usize
+}
+
+// Room for one row of each cell, or one for each place for a second.
+fn room_for(kind: u8, cells: usize) -> usize
+    requires { ⌜ cells ≤ 65535 ⌝ }
+    ensures { λ r. ⌜ r ≡ roomFor kind cells ⌝ }
+{
+    if kind == ONE_SECOND {
+        return ANSWER + ROW * PLACES * cells;
+    }
+    ANSWER + ROW * cells
+}
+
+// The first of the refusals 1 to 8 that applies.
+fn verdict(table: &[u8], req: &[u8], room: usize) -> Verdict
+    ensures { λ r. ⌜ r ≡ applyVerdict (now (table .entry)) (now (req .entry)) room ⌝ }
+{
+    if let Verdict::Refused(refusal) = table::judge::verdict(table) {
+        return Verdict::Refused(refusal);
+    }
+    if let Verdict::Refused(refusal) = record::read::verdict(req) {
+        return Verdict::Refused(refusal);
+    }
+    let fields = request(req);
+    if room < room_for(fields.kind, cells_of(table)) {
+        return Verdict::Refused(Refusal::ShortBuffer);
+    }
+    Verdict::Accepted
+}
+
+fn new_place(request: Request) -> Place
+    ensures { λ r. ⌜ r ≡ newPlace request ⌝ }
+{
+    let period = request.period;
+    let requested = request.requested;
+    Place {
+        identifier: request.identifier,
+        serial: request.serial,
+        content: request.content,
+        period,
+        requested,
+        sent: Broadcasts(0),
+        wait: Seconds(0),
+        sib: request.sib,
+    }
+}
+
+// A start that the zero rules stop.
+fn idle(request: Request) -> bool
+    ensures { λ r. ⌜ r ≡ isIdle request ⌝ }
+{
+    (request.kind == WRITE_REPLACE) & starts_nothing(request)
+}
+
+// An accepted request: the number of rows. A start that the zero rules stop changes no cell.
+fn grant(table: &mut [u8], req: &[u8], answer: &mut [u8]) -> usize
+    requires { ⌜ applyVerdict (now table) (now req) (length (now answer)) ≡ Accepted ⌝ }
+    ensures { λ r. ⌜ Granted (now (table .entry)) (now (req .entry)) (now (answer .entry)) (now (table .exit)) (now (answer .exit)) r ⌝ }
+{
+    let fields = request(req);
+    if idle(fields) {
+        put_head(answer, fields, 0);
+        return 0;
+    }
+    let new = place_bytes(new_place(fields));
+    let rows = walk(
+        table,
+        cells_of(table),
+        req,
+        count(req),
+        fields,
+        &new,
+        answer,
+    );
+    put_head(answer, fields, rows as u16);
+    rows
+}
+
+pub fn apply(table: &mut [u8], req: &[u8], answer: &mut [u8]) -> Answer
+    ensures { λ r. ⌜ outcomeBy r (now (table .exit)) (now (answer .exit)) ≡ applied (now (table .entry)) (now (req .entry)) (now (answer .entry)) ⌝ }
+{
+    if let Verdict::Refused(refusal) = verdict(table, req, answer.len()) {
+        return Answer::Nothing(refusal);
+    }
+    let rows = grant(table, req, answer);
+    Answer::Written(ANSWER + ROW * rows)
+}
