@@ -1,0 +1,96 @@
+// The C surface: numbers and byte slices in, numbers out. Each function hands its buffers to the crate that does the work.
+ghost use mathlib.Core.Path.{_≡_};
+ghost use Rattle.rules.specs.Applied.{built, written, readOf, itemAt, applied, noRequest};
+ghost use Rattle.pws.specs.Surface.{doneBy, filled, readTo, left};
+use rules::Answer;
+use rules::Broadcasts;
+use rules::Reading;
+use rules::Request;
+use rules::Seconds;
+
+// 0 and the length written, or a refusal's number and 0.
+#[repr(C)]
+pub struct PwsDone {
+    pub number: u32,
+    pub length: usize,
+}
+
+// 0, the fields and the count of items; or a refusal's number, and everything else 0.
+#[repr(C)]
+pub struct PwsReading {
+    pub number: u32,
+    pub request: Request,
+    pub items: usize,
+}
+
+fn done(answer: Answer) -> PwsDone
+    ensures { λ r. ⌜ r ≡ doneBy answer ⌝ }
+{
+    PwsDone {
+        number: answer.number(),
+        length: answer.length(),
+    }
+}
+
+#[no_mangle]
+pub extern "C" fn pws_build(heads: &[u8], table: &mut [u8]) -> PwsDone
+    ensures { λ r. ⌜ filled r (now (table .exit)) ≡ built (now (heads .entry)) (now (table .entry)) ⌝ }
+{
+    done(table::build::build(heads, table))
+}
+
+#[no_mangle]
+pub extern "C" fn pws_apply(table: &mut [u8], req: &[u8], answer: &mut [u8]) -> PwsDone
+    ensures { λ r. ⌜ left r (now (table .exit)) (now (answer .exit)) ≡ applied (now (table .entry)) (now (req .entry)) (now (answer .entry)) ⌝ }
+{
+    done(engine::apply::apply(table, req, answer))
+}
+
+#[no_mangle]
+pub extern "C" fn pws_read(req: &[u8]) -> PwsReading
+    ensures { λ r. ⌜ readTo r ≡ readOf (now (req .entry)) ⌝ }
+{
+    match record::read::read(req) {
+        Reading::Fields(request, items) => PwsReading {
+            number: 0,
+            request,
+            items,
+        },
+        Reading::Unread(refusal) => PwsReading {
+            number: refusal.number(),
+            request: nothing(),
+            items: 0,
+        },
+    }
+}
+
+#[no_mangle]
+pub extern "C" fn pws_write(request: Request, items: &[u64], buffer: &mut [u8]) -> PwsDone
+    ensures { λ r. ⌜ filled r (now (buffer .exit)) ≡ written request (now (items .entry)) (now (buffer .entry)) ⌝ }
+{
+    done(record::write::write(request, items, buffer))
+}
+
+#[no_mangle]
+pub extern "C" fn pws_item(req: &[u8], k: usize) -> u64
+    ensures { λ r. ⌜ r ≡ itemAt (now (req .entry)) k ⌝ }
+{
+    record::read::item(req, k)
+}
+
+// No request: what the reader returns with a refusal.
+fn nothing() -> Request
+    ensures { λ r. ⌜ r ≡ noRequest ⌝ }
+{
+    Request {
+        kind: 0,
+        flags: 0,
+        area: 0,
+        identifier: 0,
+        serial: 0,
+        content: 0,
+        period: Seconds(0),
+        requested: Broadcasts(0),
+        sib: 0,
+    }
+}

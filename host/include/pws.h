@@ -1,0 +1,80 @@
+/* The proved bookkeeping of public warnings in a radio unit: C surface of libpws.a.
+ *
+ * All tables, records and answers are byte buffers of the caller's, big-endian, laid out as document 01 says. No function
+ * allocates, keeps a pointer, blocks or throws; each comes back for every content and every length of its buffers.
+ *
+ * What the caller must see to (nothing else can be asked for):
+ *   - a pointer is never null, not even where its length is 0: lend the address of any byte then;
+ *   - the buffers of one call do not overlap;
+ *   - nobody else touches a buffer during the call.
+ *
+ * A number other than 0 is a refusal; the length is then 0 and no byte of any buffer has changed:
+ *   1  table shorter than 5 bytes, wrong mark or version
+ *   2  table wrong in any other way
+ *   3  record shorter than 26 bytes, wrong mark or version
+ *   4  more than 512 items, or the record's length is not 26 + 8 n
+ *   5  unknown kind, a flag, area or item count that is not allowed, a zero field that is not zero
+ *   6  Write-Replace with a period above 4095 or a SIB kind that is not 6 to 8; an item too large for its area
+ *   7  Cancel with neither flag 2 nor flag 4
+ *   8  output buffer too short
+ *   9  heads: length no multiple of 24, not 1 to 512 of them, a bad head or wrong order
+ */
+#ifndef PWS_H
+#define PWS_H
+
+#include <stddef.h>
+#include <stdint.h>
+
+#ifdef __cplusplus
+extern "C" {
+#endif
+
+/* 0 and the length written, or a refusal and 0. */
+typedef struct {
+    uint32_t number;
+    size_t length;
+} pws_done;
+
+/* A request without its items. Flags: 1 concurrent, 2 cancel-all, 4 notification present. Areas: 0 none, 1 cells,
+ * 2 tracking areas, 3 emergency areas. Kinds: 1 Write-Replace, 2 Cancel or Kill, 3 Restart, 4 Failure, 5 one second. */
+typedef struct {
+    uint8_t kind, flags, area;
+    uint16_t identifier, serial;
+    uint32_t content, period;
+    uint16_t requested;
+    uint8_t sib;
+} pws_request;
+
+/* 0, the fields and the count of items; or a refusal, and everything else 0. */
+typedef struct {
+    uint32_t number;
+    pws_request request;
+    size_t items;
+} pws_reading;
+
+/* Writes an empty table of heads_length / 24 cells at the start of table: 16 + 104 N bytes, which is the length returned.
+ * The bytes behind them stay. Refusals: 9, then 8. */
+pws_done pws_build(const uint8_t *heads, size_t heads_length, uint8_t *table, size_t table_length);
+
+/* Applies one request record to one table, which must be lent with its exact length, and writes the answer at the start of
+ * the answer buffer. In the table only the cells that the request reaches change; the bytes behind the answer stay.
+ * The answer buffer must hold 12 + 14 N bytes, or 12 + 56 N for one second, however few rows there will be; the length
+ * returned is what was written. Refusals: 1 to 8, the lowest that applies. */
+pws_done pws_apply(uint8_t *table, size_t table_length, const uint8_t *record, size_t record_length, uint8_t *answer, size_t answer_length);
+
+/* The fields and the count of items of a record. The items stay in the record: see pws_item. Refusals: 3 to 7, the lowest
+ * that applies. */
+pws_reading pws_read(const uint8_t *record, size_t record_length);
+
+/* Writes a record of 26 + 8 count bytes at the start of record, which is the length returned; the bytes behind it stay.
+ * What it writes, pws_read reads back as the same fields and items. Refusals in this order: 4 (count above 512), 5, 6, 7, 8. */
+pws_done pws_write(pws_request request, const uint64_t *items, size_t count, uint8_t *record, size_t record_length);
+
+/* The k-th item of a record, counted from 0, as a number; 0 where the record ends before it. */
+uint64_t pws_item(const uint8_t *record, size_t record_length, size_t k);
+
+#ifdef __cplusplus
+}
+#endif
+
+#endif
