@@ -1,0 +1,63 @@
+-- Acceptance and reach are the same at any time of a run, so `Meet` may read both off the first table; and an accepted second reaches every cell.
+-- The number follows from the verdict, which stays; heads stay under every call; the table of kinds allows a second no area.
+use mathlib.Core.Path.{_≡_, refl, sym, ap, _∙_}
+use mathlib.Core.Bool.{true, _&&_, false≢true}
+use mathlib.Core.List.{List, [], _∷_, map, map-map}
+use Prim.Native.Nat.{ℕ}
+use lib.Dec.{eqb}
+use lib.ListN.{length}
+use borrow.Author.Tests.{eqb-true}
+use Rattle.rules.specs.Lists.{any, zeros, oneOf}
+use Rattle.rules.specs.Table.{cellsOf}
+use Rattle.rules.specs.Record.{noArea, oneSecond, requestOf, itemsOf, identifierToSib, row, kindAllows}
+use Rattle.rules.specs.Reach.{reaches}
+use Rattle.rules.specs.Refusals.{verdictNumber, applyVerdict}
+use Rattle.rules.specs.Applied.{outcome, applied}
+use Rattle.rules.specs.declared.Request.{Request}
+use Rattle.rules.specs.declared.Verdict.{Verdict}
+use Rattle.rules.specs.declared.Verdict.the-variants.{Accepted, Refused}
+use Rattle.rules.proofs.ListsLaws.{both, by-test}
+use Rattle.rules.proofs.VerdictLaws.{request-accepted}
+use Rattle.rules.proofs.RecordTrips.{record-accepted}
+use Rattle.rules.proofs.OutcomeLaws.{applied-accepted}
+use Rattle.rules.proofs.AppliedLaws.{call-accepted}
+use Rattle.demands.specs.Demand3.{Call, outcomeOn, run, AcceptedAnywhere, CellsStay, SecondReachesAll}
+use Rattle.demands.proofs.Runs.{cellBefore, verdict-stays, run-goes, cells-after}
+
+number-of : (u : List ℕ) (c : Call) → outcomeOn u c .number ≡ verdictNumber (applyVerdict u (c .req) (length (c .answer)))
+unfolding applied outcome
+number-of u c = go (applyVerdict u (c .req) (length (c .answer)))
+  where
+    go : (v : Verdict) → outcome v (requestOf (c .req)) (itemsOf (c .req)) u (c .answer) .number ≡ verdictNumber v
+    go Accepted = refl
+    go (Refused x) = refl
+
+pub accepted-anywhere : AcceptedAnywhere
+accepted-anywhere t bytes legal before c =
+    number-of (run t before .0) c
+    ∙ ap verdictNumber (verdict-stays t legal (run t before .0) (run-goes t legal bytes before) c)
+    ∙ sym (number-of t c)
+
+pub cells-stay : CellsStay
+cells-stay t bytes legal before =
+    ap (map (λ c. c .head)) (cells-after t legal bytes before)
+    ∙ map-map (λ c. c .head) (cellBefore t before (length before)) (cellsOf t)
+
+row-area : (q : Request) (flags areas zero : List ℕ) → row q flags areas zero ≡ true → oneOf (q .area) areas ≡ true
+unfolding row
+row-area q flags areas zero e =
+    both (oneOf (q .flags) flags) (oneOf (q .area) areas) (both (oneOf (q .flags) flags && oneOf (q .area) areas) (zeros zero) e .0) .1
+
+-- the table of kinds allows a second area 0 only
+second-area : (q : Request) → kindAllows q ≡ true → q .kind ≡ oneSecond → q .area ≡ noArea
+unfolding kindAllows row oneOf any
+second-area q e k =
+    let area = row-area q (0 ∷ []) (noArea ∷ []) (identifierToSib q) (rw k at e) in
+    by-test (eqb (q .area) noArea) (eqb-true (q .area) noArea) (λ n. absurd (false≢true (rw n at area)))
+
+pub second-reaches-all : SecondReachesAll
+unfolding reaches
+second-reaches-all t c e k cell =
+    let accepted = call-accepted t (c .req) (length (c .answer)) (applied-accepted t (c .req) (c .answer) e) in
+    let allowed = request-accepted (requestOf (c .req)) (itemsOf (c .req)) (record-accepted (c .req) (accepted .req) .request) in
+    rw (second-area (requestOf (c .req)) (allowed .kind) k)
