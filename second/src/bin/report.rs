@@ -1,0 +1,9 @@
+//! Broadcast report: document 01's program, from standard input to standard output.
+
+#![forbid(unsafe_code)]
+
+use std::io::{self, BufWriter};
+
+fn main() -> io::Result<()> {
+    second::report(io::stdin().lock(), BufWriter::new(io::stdout().lock()))
+}

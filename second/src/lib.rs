@@ -1,0 +1,30 @@
+//! A second implementation of document 01, written from the document alone, so that the first one
+//! can be compared with it. Bytes are decoded into cells, places, requests and rows, the rules work
+//! on these, and what changed is encoded again.
+
+#![forbid(unsafe_code)]
+
+mod answer;
+mod apply;
+mod area;
+mod cell;
+mod layout;
+mod order;
+mod place;
+mod record;
+mod refusal;
+mod report;
+pub mod request;
+mod table;
+pub mod text;
+
+pub use answer::{Answer, Row};
+pub use apply::apply;
+pub use area::Area;
+pub use cell::{Cell, CellIdentity, Head};
+pub use place::{Broadcasts, Place, Seconds, LARGEST_PERIOD, SIB_KINDS};
+pub use record::{item, read, write, Reading, Record};
+pub use refusal::{Done, Refusal};
+pub use report::report;
+pub use request::Request;
+pub use table::{build, Table};

@@ -1,0 +1,12 @@
+//! Two units compared call by call, on given inputs.
+
+pub mod broken;
+pub mod call;
+pub mod cases;
+pub mod compare;
+mod promises;
+pub mod reorder;
+pub mod spoiled;
+pub mod tables;
+pub mod unit;
+pub mod wrong_tables;

@@ -1,0 +1,182 @@
+//! The second implementation against the first one behind its C surface, call by call; and the
+//! comparison against itself, so that it is known to find what it should.
+//!
+//! SEED has a run again. REPLAY names a file that holds a difference as printed, and makes its call
+//! again. TRACE names a file that always holds the last call, for a unit that ends the process.
+
+mod comparison;
+mod given;
+#[cfg(pws)]
+mod pws;
+
+use comparison::broken::broken_units;
+use comparison::call::Call;
+use comparison::cases::Cases;
+use comparison::compare::{Compare, Difference};
+use comparison::reorder::{reorder, Reordered};
+use comparison::unit::{Functions, Unit, SOUND};
+use comparison::wrong_tables::WrongTables;
+use given::heads::heads;
+use given::random::{say, seed, Random};
+use given::wrong_records::WrongRecords;
+use second::request::SECOND;
+use second::{apply, build, read, Answer, Cell, Record, Request, Table};
+
+const CALLS: u64 = 300_000;
+/// A single fault must show within so many calls.
+const CALLS_TO_FIND_A_FAULT: u64 = 30_000;
+const SEQUENCES: usize = 2_000;
+
+type Named<'a> = (&'a str, &'a dyn Unit);
+
+/// How many calls were made, and the first difference if there is one.
+fn compared(units: [Named; 2], seed: u64, calls: u64) -> (u64, Result<(), Difference>) {
+    let mut cases = Cases { compare: Compare::new(units), random: Random::new(seed) };
+    let outcome = cases.run(calls);
+    (cases.compare.calls, outcome)
+}
+
+fn keeps_demand_3(unit: &dyn Unit, seed: u64) -> Result<Reordered, Difference> {
+    let mut random = Random::new(seed);
+    let mut sum = Reordered::default();
+    for _ in 0..SEQUENCES {
+        let one = reorder(unit, &mut random)?;
+        sum = Reordered { calls: sum.calls + one.calls, moved: sum.moved + one.moved };
+    }
+    Ok(sum)
+}
+
+fn assert_agrees(name: &str, unit: &dyn Unit) {
+    let seed = seed(name);
+    let (calls, outcome) = compared([("second", &SOUND), (name, unit)], seed, CALLS);
+    say(&format!("{name}: {calls} calls compared"));
+    if let Err(difference) = outcome {
+        panic!("{difference}");
+    }
+}
+
+fn assert_keeps_demand_3(name: &str, unit: &dyn Unit) {
+    let outcome = keeps_demand_3(unit, seed(&format!("{name}, demand 3")));
+    let Reordered { calls, moved } = outcome.unwrap_or_else(|difference| panic!("{difference}"));
+    say(&format!("{name}, demand 3: {calls} calls, {moved} orders other than the given one"));
+    assert!(moved > SEQUENCES, "too few orders were tried");
+}
+
+#[test]
+fn second_agrees_with_itself() {
+    assert_agrees("second", &SOUND);
+}
+
+#[test]
+fn second_keeps_demand_3() {
+    assert_keeps_demand_3("second", &SOUND);
+}
+
+#[cfg(pws)]
+#[test]
+fn the_c_library_agrees_with_second() {
+    assert_agrees("libpws.a", &pws::Pws::default());
+}
+
+#[cfg(pws)]
+#[test]
+fn the_c_library_keeps_demand_3() {
+    assert_keeps_demand_3("libpws.a", &pws::Pws::default());
+}
+
+#[cfg(not(pws))]
+#[test]
+fn the_c_library_is_skipped() {
+    say("libpws.a: SKIPPED, for PWS_LIB_DIR names no folder with a libpws.a");
+}
+
+#[test]
+fn each_single_fault_is_found() {
+    let seed = seed("faults");
+    for (name, unit) in broken_units() {
+        let units: [Named; 2] = [("second", &SOUND), (name, &unit)];
+        let (calls, outcome) = compared(units, seed, CALLS_TO_FIND_A_FAULT);
+        assert!(outcome.is_err(), "{name}: not found within {calls} calls");
+        println!("{name}: found by call {calls}");
+    }
+}
+
+fn broken_unit(fault: &str) -> Functions {
+    broken_units().into_iter().find(|(name, _)| *name == fault).expect("the fault is listed").1
+}
+
+#[test]
+fn a_broken_promise_is_found_where_both_units_break_it() {
+    let seed = seed("promises");
+    for fault in [
+        "an unmatched list is no list",
+        "a code matches in every PLMN",
+        "the byte behind the answer is zeroed",
+        "a refusal clears the answer",
+        "a full cell fails the request",
+        "a refused reading has its fields",
+        "the record's rest is cleared",
+    ] {
+        let unit = broken_unit(fault);
+        let (_, outcome) = compared([(fault, &unit), (fault, &unit)], seed, CALLS_TO_FIND_A_FAULT);
+        assert!(outcome.is_err(), "{fault}: not found");
+    }
+}
+
+#[test]
+fn faults_of_reach_break_demand_3() {
+    let seed = seed("faults, demand 3");
+    for fault in ["an unmatched list is no list", "a code matches in every PLMN"] {
+        assert!(keeps_demand_3(&broken_unit(fault), seed).is_err(), "{fault}: not found");
+    }
+}
+
+#[test]
+fn each_named_breakage_has_its_refusal() {
+    let mut random = Random::new(seed("breakages"));
+    let second = Record { request: Request { kind: SECOND, ..Request::default() }, items: vec![] };
+    for _ in 0..20 {
+        let heads = heads(&mut random, 3);
+        let legal = Table { cells: heads.iter().cloned().map(Cell::empty).collect() }.encode();
+        for wrong in WrongRecords::all(&mut random, &heads) {
+            assert_eq!(read(&wrong.bytes).number, wrong.number, "{}", wrong.name);
+            let mut answer = vec![0; Answer::room(SECOND, 3)];
+            let done = apply(&mut legal.clone(), &wrong.bytes, &mut answer);
+            assert_eq!(done.number, wrong.number, "{}", wrong.name);
+        }
+        for mut wrong in WrongTables::all(&mut random) {
+            let mut answer = vec![0; Answer::room(SECOND, 513)];
+            let done = apply(&mut wrong.bytes, &second.encode(), &mut answer);
+            assert_eq!(done.number, wrong.number, "{}", wrong.name);
+        }
+        for wrong in WrongTables::all_heads(&mut random) {
+            let done = build(&wrong.bytes, &mut vec![0; Table::HEADER + Cell::LENGTH * 1025]);
+            assert_eq!(done.number, wrong.number, "{}", wrong.name);
+        }
+    }
+}
+
+#[test]
+fn a_call_reads_back_from_its_text() {
+    let request = Request { kind: 1, content: 7, sib: 8, ..Request::default() };
+    for call in [
+        Call::Build { heads: vec![1, 2], table: vec![] },
+        Call::Apply { table: vec![0xff], record: vec![], answer: vec![0, 1] },
+        Call::Read { record: vec![0x50] },
+        Call::Write { request, items: vec![1, u64::MAX], record: vec![] },
+        Call::Item { record: vec![1; 40], k: usize::MAX },
+    ] {
+        assert_eq!(Call::parse(&call.to_string()), Some(call));
+    }
+}
+
+/// Makes the call in the file that REPLAY names, on each unit there is.
+#[test]
+fn replay() {
+    let Ok(path) = std::env::var("REPLAY") else { return };
+    let text = std::fs::read_to_string(path).expect("REPLAY names a file");
+    let call = text.lines().find_map(Call::parse).expect("the file has a call's text in a line");
+    say(&format!("second: {}", call.made_by(&SOUND)));
+    #[cfg(pws)]
+    say(&format!("libpws.a: {}", call.made_by(&pws::Pws::default())));
+}

@@ -1,0 +1,53 @@
+//! The examples, each a script beside what the program reports of it.
+
+use std::fs;
+use std::path::{Path, PathBuf};
+use std::process::{Command, Stdio};
+
+fn examples() -> PathBuf {
+    Path::new(env!("CARGO_MANIFEST_DIR")).join("../examples")
+}
+
+/// The outcome of `script < path | report`.
+fn reported(path: &Path) -> String {
+    let mut script = Command::new(env!("CARGO_BIN_EXE_script"))
+        .stdin(fs::File::open(path).unwrap())
+        .stdout(Stdio::piped())
+        .spawn()
+        .unwrap();
+    let report = Command::new(env!("CARGO_BIN_EXE_report"))
+        .stdin(script.stdout.take().unwrap())
+        .output()
+        .unwrap();
+    assert!(script.wait().unwrap().success() && report.status.success(), "{}", path.display());
+    String::from_utf8(report.stdout).unwrap()
+}
+
+#[test]
+fn each_example_is_reported_as_kept() {
+    let mut names = Vec::new();
+    for entry in fs::read_dir(examples()).unwrap() {
+        let path = entry.unwrap().path();
+        if path.extension().is_some_and(|extension| extension == "txt") {
+            let kept = fs::read_to_string(path.with_extension("out")).unwrap();
+            assert_eq!(reported(&path), kept, "{}", path.display());
+            names.push(path.file_stem().unwrap().to_string_lossy().into_owned());
+        }
+    }
+    names.sort();
+    assert_eq!(names, ["cancel-first", "example", "merged-queues", "one-yard"]);
+}
+
+#[test]
+fn a_bad_script_is_told_on_standard_error_alone() {
+    let path = Path::new(env!("CARGO_TARGET_TMPDIR")).join("bad.txt");
+    fs::write(&path, "cell 00f110000000010 code 1\nsecond\nseconds 0\n").unwrap();
+    let script = Command::new(env!("CARGO_BIN_EXE_script"))
+        .stdin(fs::File::open(&path).unwrap())
+        .output()
+        .unwrap();
+    assert!(!script.status.success());
+    assert_eq!(script.stdout, b"");
+    let told = "line 3: The number of seconds must be 1 to 65535, unlike `0`.\n";
+    assert_eq!(String::from_utf8(script.stderr).unwrap(), told);
+}
