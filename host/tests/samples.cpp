@@ -1,0 +1,229 @@
+// Document 01's samples through the C surface: P1 to P13 on a table of one cell, and the program's example whole.
+#include "pws.h"
+
+#include <cstdio>
+#include <cstring>
+#include <string>
+#include <vector>
+
+using Bytes = std::vector<uint8_t>;
+
+static int passed = 0;
+static int failed = 0;
+
+static void expect(bool ok, const std::string &what) {
+    if (ok) {
+        ++passed;
+    } else {
+        ++failed;
+        std::printf("FAILED: %s\n", what.c_str());
+    }
+}
+
+static void put(Bytes &to, uint64_t number, int width) {
+    for (int shift = 8 * (width - 1); shift >= 0; shift -= 8) {
+        to.push_back(static_cast<uint8_t>(number >> shift));
+    }
+}
+
+static Bytes head(uint64_t identity, uint32_t code) {
+    Bytes b;
+    put(b, identity, 8);
+    put(b, code, 3);
+    b.resize(24);
+    return b;
+}
+
+static const uint64_t FIRST = 0x00f110000000010;
+static const uint64_t SECOND = 0x00f110000000020;
+
+struct Row {
+    uint64_t identity;
+    uint16_t count;
+    uint32_t content;
+};
+
+// What an apply leaves: its number and, if accepted, the rows of its answer.
+struct Outcome {
+    uint32_t number;
+    std::vector<Row> rows;
+};
+
+static uint64_t get(const Bytes &from, size_t at, int width) {
+    uint64_t n = 0;
+    for (int i = 0; i < width; ++i) {
+        n = n * 256 + from[at + i];
+    }
+    return n;
+}
+
+struct Unit {
+    Bytes table;
+
+    explicit Unit(const std::vector<Bytes> &heads) {
+        Bytes all;
+        for (const Bytes &h : heads) {
+            all.insert(all.end(), h.begin(), h.end());
+        }
+        table.resize(16 + 104 * heads.size());
+        pws_done done = pws_build(all.data(), all.size(), table.data(), table.size());
+        expect(done.number == 0 && done.length == table.size(), "build");
+    }
+
+    Outcome apply(const pws_request &request, const std::vector<uint64_t> &items = {}) {
+        Bytes record(26 + 8 * items.size());
+        static const uint64_t none = 0;
+        pws_done written = pws_write(request, items.empty() ? &none : items.data(), items.size(), record.data(), record.size());
+        if (written.number != 0) {
+            return {written.number, {}};
+        }
+        Bytes answer(12 + 56 * ((table.size() - 16) / 104), 0xee);
+        pws_done done = pws_apply(table.data(), table.size(), record.data(), record.size(), answer.data(), answer.size());
+        Outcome outcome{done.number, {}};
+        for (size_t at = 12; done.number == 0 && at < done.length; at += 14) {
+            outcome.rows.push_back({get(answer, at, 8), static_cast<uint16_t>(get(answer, at + 8, 2)), static_cast<uint32_t>(get(answer, at + 10, 4))});
+        }
+        for (size_t at = done.length; at < answer.size(); ++at) {
+            if (answer[at] != 0xee) {
+                expect(false, "bytes behind the answer stay");
+            }
+        }
+        return outcome;
+    }
+
+    // Of the first cell: live places, and sent of its first place.
+    int live() const {
+        int n = 0;
+        for (size_t at = 16 + 24; at < 16 + 104; at += 20) {
+            n += table[at + 17];
+        }
+        return n;
+    }
+    uint64_t sent() const { return get(table, 16 + 24 + 12, 2); }
+};
+
+static pws_request start(uint16_t identifier, uint32_t period, uint16_t requested, uint8_t flags = 0) {
+    return {1, flags, 0, identifier, 16, 7, period, requested, 8};
+}
+
+static pws_request cancel(uint8_t flags, uint16_t identifier, uint16_t serial, uint8_t area = 0) {
+    return {2, flags, area, identifier, serial, 0, 0, 0, 0};
+}
+
+static const pws_request second = {5, 0, 0, 0, 0, 0, 0, 0, 0};
+
+static Unit one() { return Unit({head(FIRST, 1)}); }
+
+// A unit with 4370/16 sent twice.
+static Unit twice() {
+    Unit unit = one();
+    unit.apply(start(4370, 2, 3));
+    for (int i = 0; i < 3; ++i) {
+        unit.apply(second);
+    }
+    return unit;
+}
+
+static Unit four() {
+    Unit unit = one();
+    for (uint16_t i = 1; i <= 4; ++i) {
+        unit.apply(start(i, 5, 3, 1));
+    }
+    return unit;
+}
+
+static bool reports(const Outcome &outcome, std::vector<uint16_t> counts) {
+    if (outcome.number != 0 || outcome.rows.size() != counts.size()) {
+        return false;
+    }
+    for (size_t i = 0; i < counts.size(); ++i) {
+        if (outcome.rows[i].count != counts[i]) {
+            return false;
+        }
+    }
+    return true;
+}
+
+static void starts() {
+    Unit p1 = one();
+    expect(reports(p1.apply(start(4370, 4095, 2)), {0}) && p1.live() == 1, "P1");
+    expect(one().apply(start(4370, 4096, 2)).number == 6, "P2");
+    Unit p3 = one();
+    expect(reports(p3.apply(start(4370, 5, 0)), {}) && p3.live() == 0, "P3");
+    Unit p4 = one();
+    expect(reports(p4.apply(start(4370, 1, 0, 1)), {0}), "P4 starts");
+    for (int i = 0; i < 1000; ++i) {
+        p4.apply(second);
+    }
+    expect(p4.live() == 1 && p4.sent() == 1000, "P4 has no end");
+    Unit p5 = one();
+    p5.apply(start(4370, 0, 1));
+    expect(reports(p5.apply(second), {1}) && p5.live() == 0, "P5");
+    Unit p6 = one();
+    expect(reports(p6.apply(start(4370, 0, 2)), {}) && p6.live() == 0, "P6");
+    Unit p7 = twice();
+    expect(reports(p7.apply(start(4370, 9, 9)), {0}) && p7.sent() == 2, "P7");
+    Unit p8 = four();
+    expect(reports(p8.apply(start(4370, 2, 3, 1)), {}) && p8.live() == 4, "P8");
+    Unit p9 = four();
+    expect(reports(p9.apply(start(4370, 2, 3)), {0}) && p9.live() == 1, "P9");
+}
+
+static void cancels() {
+    Unit p10 = twice();
+    expect(reports(p10.apply(cancel(4, 4370, 16)), {2}) && p10.live() == 0, "P10");
+    Unit p11 = twice();
+    expect(reports(p11.apply(cancel(6, 4370, 16)), {0}) && p11.live() == 0, "P11");
+    Unit p12 = twice();
+    expect(reports(p12.apply(cancel(4, 4370, 16, 1), {FIRST, FIRST}), {2}) && p12.live() == 0, "P12");
+    expect(twice().apply(cancel(0, 0, 0)).number == 7, "P13");
+}
+
+static std::string shown(const pws_request &request, const Outcome &outcome) {
+    char line[64];
+    std::snprintf(line, sizeof line, "ok %u %zu\n", request.kind, outcome.rows.size());
+    std::string text = line;
+    for (const Row &row : outcome.rows) {
+        std::snprintf(line, sizeof line, "%015llx %u %u\n", static_cast<unsigned long long>(row.identity), row.count, row.content);
+        text += line;
+    }
+    return text;
+}
+
+static void example() {
+    Unit unit({head(FIRST, 1), head(SECOND, 2)});
+    std::string text;
+    auto run = [&](const pws_request &request, const std::vector<uint64_t> &items = {}) { text += shown(request, unit.apply(request, items)); };
+    run(start(4370, 2, 3));
+    run(second);
+    run(second);
+    run(second);
+    run(cancel(4, 4370, 16, 2), {0x00f110000002});
+    run(cancel(2, 0, 0));
+    run(cancel(4, 4370, 16));
+    expect(text ==
+               "ok 1 2\n00f110000000010 0 0\n00f110000000020 0 0\nok 5 2\n00f110000000010 1 7\n00f110000000020 1 7\nok 5 0\n"
+               "ok 5 2\n00f110000000010 2 7\n00f110000000020 2 7\nok 2 1\n00f110000000020 2 0\nok 2 1\n00f110000000010 0 0\nok 2 0\n",
+           "document 01's example");
+}
+
+// What is written reads back, items included.
+static void round_trip() {
+    const pws_request request = cancel(4, 4370, 16, 1);
+    const uint64_t items[] = {FIRST, SECOND};
+    Bytes record(26 + 16 + 3, 0xee);
+    pws_done done = pws_write(request, items, 2, record.data(), record.size());
+    pws_reading reading = pws_read(record.data(), done.length);
+    expect(done.number == 0 && done.length == 42 && record[42] == 0xee, "a record is written, and the bytes behind it stay");
+    expect(reading.number == 0 && reading.items == 2 && reading.request.kind == 2 && reading.request.identifier == 4370 && reading.request.serial == 16 && reading.request.area == 1, "its fields read back");
+    expect(pws_item(record.data(), done.length, 0) == FIRST && pws_item(record.data(), done.length, 1) == SECOND && pws_item(record.data(), done.length, 2) == 0, "its items read back");
+}
+
+int main() {
+    starts();
+    cancels();
+    example();
+    round_trip();
+    std::printf("%d passed, %d failed\n", passed, failed);
+    return failed == 0 ? 0 : 1;
+}
