@@ -7,6 +7,7 @@ use cell::read::seek;
 use cell::read::sent;
 use rules::Broadcasts;
 use rules::Request;
+use rules::kind::CANCEL_ALL;
 ghost use mathlib.Core.Path.{_≡_};
 ghost use Rattle.rules.specs.InCell.{cancel, restart, failure};
 ghost use Rattle.cell.specs.Places.{livePlaces};
@@ -56,7 +57,7 @@ pub fn cancel_in_cell(cell: &mut [u8], request: Request, out: &mut [u8]) -> usiz
     requires { ⌜ Ready (now cell) (now out) 1 ⌝ }
     ensures { λ r. ⌜ Stepped (cancel request (livePlaces (now (cell .entry)))) (now (cell .entry)) (now (out .entry)) (now (cell .exit)) (now (out .exit)) 1 r ⌝ }
 {
-    if request.flags / 2 % 2 == 1 {
+    if request.flags / CANCEL_ALL % 2 == 1 {
         return failure_in_cell(cell, out);
     }
     cancel_text(

@@ -11,6 +11,8 @@ use cell::read::Areas;
 use cell::read::areas_of;
 use cell::read::identity;
 use cell::read::tracking;
+use rules::kind::CELLS;
+use rules::kind::TRACKING_AREAS;
 
 // By an emergency area, or by a key: the NR CGI, or the item that names the tracking area.
 pub struct Naming {
@@ -31,14 +33,14 @@ pub fn naming_of(cell: &[u8], area: u8) -> Naming
     requires { ⌜ length (now cell) ≡ cellSize ⌝ }
     ensures { λ r. ⌜ ((x : ℕ) → namedBy r x ≡ names area (headOf (take headSize (now (cell .entry)))) x) ⌝ }
 {
-    if area == 1 {
+    if area == CELLS {
         return Naming {
             emergency: false,
             key: identity(cell),
             areas: NO_AREAS,
         };
     }
-    if area == 2 {
+    if area == TRACKING_AREAS {
         return Naming {
             emergency: false,
             key: tracking(cell),

@@ -10,7 +10,7 @@ use crate::cancel::restart_in_cell;
 use crate::second::second_in_cell;
 use crate::start::start_in_cell;
 use rules::Request;
-use rules::kind::CANCEL;
+use rules::kind::CANCEL_OR_KILL;
 use rules::kind::FAILURE;
 use rules::kind::RESTART;
 use rules::kind::WRITE_REPLACE;
@@ -24,7 +24,7 @@ pub fn step_cell(cell: &mut [u8], request: Request, new: &[u8], out: &mut [u8]) 
     if request.kind == WRITE_REPLACE {
         return start_in_cell(cell, request, new, out);
     }
-    if request.kind == CANCEL {
+    if request.kind == CANCEL_OR_KILL {
         return cancel_in_cell(cell, request, out);
     }
     if request.kind == RESTART {

@@ -5,6 +5,7 @@ use crate::reach::naming_of;
 use crate::step::step_cell;
 use octets::get64;
 use rules::Request;
+use rules::kind::NO_AREA;
 use rules::layout::ANSWER;
 use rules::layout::CELL;
 use rules::layout::HEADER;
@@ -35,7 +36,7 @@ pub fn walk(
         at += CELL;
         left -= 1;
         let naming = naming_of(&table[start..at], area);
-        let mut reached = area == 0;
+        let mut reached = area == NO_AREA;
         let mut from = RECORD;
         let mut todo = items;
         'items: while 0 < todo {

@@ -11,39 +11,24 @@ ghost use Rattle.rules.specs.Refusals.{requestVerdict};
 use rules::Refusal;
 use rules::Request;
 use rules::Verdict;
+use rules::kind::CANCEL_ALL;
+use rules::kind::CANCEL_OR_KILL;
+use rules::kind::CELLS;
+use rules::kind::CONCURRENT;
+use rules::kind::EMERGENCY_AREAS;
+use rules::kind::FAILURE;
+use rules::kind::NO_AREA;
+use rules::kind::NOTIFIED;
+use rules::kind::ONE_SECOND;
+use rules::kind::RESTART;
+use rules::kind::TRACKING_AREAS;
+use rules::kind::WRITE_REPLACE;
 use rules::layout::CELL_END;
 use rules::layout::EMERGENCY_END;
 use rules::layout::FIRST_SIB;
 use rules::layout::LAST_SIB;
 use rules::layout::LONGEST_PERIOD;
 use rules::layout::TRACKING_END;
-
-// Kinds.
-const WRITE_REPLACE: u8 = 1;
-
-const CANCEL_OR_KILL: u8 = 2;
-
-const RESTART: u8 = 3;
-
-const FAILURE: u8 = 4;
-
-const ONE_SECOND: u8 = 5;
-
-// Flags.
-const CONCURRENT: u8 = 1;
-
-const CANCEL_ALL: u8 = 2;
-
-const NOTIFIED: u8 = 4;
-
-// Areas.
-const NO_AREA: u8 = 0;
-
-const CELLS: u8 = 1;
-
-const TRACKING_AREAS: u8 = 2;
-
-const EMERGENCY_AREAS: u8 = 3;
 
 // ---- 5: flags, areas and zero fields by kind
 

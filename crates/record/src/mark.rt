@@ -12,13 +12,11 @@ use octets::get24;
 use octets::put16;
 use octets::put24;
 use rules::layout::RECORD;
+use rules::layout::RECORD_MARK;
 use rules::layout::RECORD_VERSION;
-
-const MARK: u32 = 0x505752;
+use rules::layout::VERSION_AT;
 
 const MARK_AT: usize = 0;
-
-const VERSION_AT: usize = 3;
 
 // Bytes long enough for a record, with its mark and version.
 pub fn marked(req: &[u8]) -> bool
@@ -27,7 +25,7 @@ pub fn marked(req: &[u8]) -> bool
     if req.len() < RECORD {
         return false;
     }
-    (get24(req, MARK_AT) == MARK) & (get16(req, VERSION_AT) == RECORD_VERSION)
+    (get24(req, MARK_AT) == RECORD_MARK) & (get16(req, VERSION_AT) == RECORD_VERSION)
 }
 
 // Stores the fields 0 and 1 of the layout.
@@ -35,6 +33,6 @@ pub fn put_mark(buffer: &mut [u8])
     requires { ⌜ recordSize ≤ length (now buffer) ⌝ }
     ensures { λ _. ⌜ now (buffer .exit) ≡ sets (now (buffer .entry)) 0 (bytesOf recordFields (recordMark ∷ recordVersion ∷ [])) ⌝ }
 {
-    put24(buffer, MARK_AT, MARK);
+    put24(buffer, MARK_AT, RECORD_MARK);
     put16(buffer, VERSION_AT, RECORD_VERSION);
 }

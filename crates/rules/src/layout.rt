@@ -16,6 +16,12 @@ pub const MOST_CELLS: usize = 512;
 
 pub const TABLE_VERSION: u16 = 1;
 
+// "PWT" as a number.
+pub const TABLE_MARK: u32 = 0x505754;
+
+// Behind each mark of three bytes.
+pub const VERSION_AT: usize = 3;
+
 // Offsets in the header.
 pub const CELLS_AT: usize = 5;
 
@@ -33,6 +39,8 @@ pub const AREAS_AT: usize = 12;
 pub const AREA: usize = 3;
 
 // Offsets in a place.
+pub const PLACE_SERIAL_AT: usize = 2;
+
 pub const CONTENT_AT: usize = 4;
 
 pub const PERIOD_AT: usize = 8;
@@ -66,6 +74,9 @@ pub const ITEM: usize = 8;
 pub const MOST_ITEMS: usize = 512;
 
 pub const RECORD_VERSION: u16 = 1;
+
+// "PWR" as a number.
+pub const RECORD_MARK: u32 = 0x505752;
 
 // Offsets in a record.
 pub const KIND_AT: usize = 5;

@@ -11,8 +11,6 @@ ghost use Rattle.rules.specs.Refusals.{legalHeads};
 ghost use Rattle.rules.specs.Applied.{filledBy, built};
 ghost use Rattle.table.specs.Judge.{legalRuns};
 ghost use Rattle.table.specs.Build.{emptyRun};
-use crate::judge::MARK;
-use crate::judge::VERSION_AT;
 use crate::judge::head_legal;
 use octets::copy;
 use octets::get64;
@@ -29,7 +27,9 @@ use rules::layout::HEADER;
 use rules::layout::MOST_CELLS;
 use rules::layout::PLACES;
 use rules::layout::PLACES_AT;
+use rules::layout::TABLE_MARK;
 use rules::layout::TABLE_VERSION;
+use rules::layout::VERSION_AT;
 use rules::layout::ZEROS_AT;
 
 // Any heads, any buffer: refusal 9, then 8; else the header, then each head with free places behind it. Bytes beyond stay.
@@ -91,7 +91,7 @@ fn put_header(table: &mut [u8], count: usize)
     requires { ⌜ (headerSize ≤ length (now table)) × (count ≤ mostCells) ⌝ }
     ensures { λ _. ⌜ now (table .exit) ≡ sets (now (table .entry)) 0 (headerBytes count) ⌝ }
 {
-    put24(table, 0, MARK);
+    put24(table, 0, TABLE_MARK);
     put16(table, VERSION_AT, TABLE_VERSION);
     put16(table, CELLS_AT, count as u16);
     put8(table, PLACES_AT, PLACES as u8);

@@ -35,22 +35,17 @@ use rules::layout::LONGEST_PERIOD;
 use rules::layout::MOST_CELLS;
 use rules::layout::PERIOD_AT;
 use rules::layout::PLACE;
+use rules::layout::PLACE_SERIAL_AT;
 use rules::layout::PLACES;
 use rules::layout::PLACES_AT;
 use rules::layout::REQUESTED_AT;
 use rules::layout::SENT_AT;
 use rules::layout::SIB_AT;
+use rules::layout::TABLE_MARK;
 use rules::layout::TABLE_VERSION;
+use rules::layout::VERSION_AT;
 use rules::layout::WAIT_AT;
 use rules::layout::ZEROS_AT;
-
-// "PWT", the first bytes of a table, and where its version stands.
-pub const MARK: u32 = (b'P' as u32) * 65536 + (b'W' as u32) * 256 + (b'T' as u32);
-
-pub const VERSION_AT: usize = 3;
-
-// Where a place's serial number stands.
-const PLACE_SERIAL_AT: usize = 2;
 
 // What one `get32` reads.
 const WORD: usize = 4;
@@ -82,7 +77,7 @@ fn marked(table: &[u8]) -> bool
     if table.len() < CELLS_AT {
         return false;
     }
-    (get24(table, 0) == MARK) & (get16(table, VERSION_AT) == TABLE_VERSION)
+    (get24(table, 0) == TABLE_MARK) & (get16(table, VERSION_AT) == TABLE_VERSION)
 }
 
 // The count of cells, the places per cell, the zeros and the exact length.
