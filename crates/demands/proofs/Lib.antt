@@ -1,3 +1,4 @@
+pub mod Demand1Holds
 pub mod Zip
 pub mod Positions
 pub mod Permutations

@@ -1,0 +1,82 @@
+-- Demand 1 holds, and each promise admits one outcome only.
+-- What is returned and left is what the definition says, and the definition's refusals leave everything as it was.
+use mathlib.Core.Path.{_≡_, refl, sym, ap, _∙_}
+use mathlib.Core.List.{List}
+use Prim.Native.Nat.{ℕ}
+use Rattle.octets.proofs.Once.{one-outcome}
+use Rattle.rules.specs.Applied.{Filled, ReadOutcome, Outcome, built, written, readOf, itemAt, applied}
+use Rattle.rules.specs.declared.Request.{Request}
+use Rattle.rules.proofs.OutcomeLaws.{built-refused, written-refused, read-refused, applied-refused}
+use Rattle.demands.specs.Demand1.{Demand1, OneOutcome}
+
+-- ---- field by field
+
+number-filled : {x y : Filled} → x ≡ y → x .number ≡ y .number
+number-filled e = ap (λ (f : Filled). f .number) e
+
+length-filled : {x y : Filled} → x ≡ y → x .length ≡ y .length
+length-filled e = ap (λ (f : Filled). f .length) e
+
+buffer-filled : {x y : Filled} → x ≡ y → x .buffer ≡ y .buffer
+buffer-filled e = ap (λ (f : Filled). f .buffer) e
+
+number-read : {x y : ReadOutcome} → x ≡ y → x .number ≡ y .number
+number-read e = ap (λ (f : ReadOutcome). f .number) e
+
+request-read : {x y : ReadOutcome} → x ≡ y → x .request ≡ y .request
+request-read e = ap (λ (f : ReadOutcome). f .request) e
+
+items-read : {x y : ReadOutcome} → x ≡ y → x .items ≡ y .items
+items-read e = ap (λ (f : ReadOutcome). f .items) e
+
+number-left : {x y : Outcome} → x ≡ y → x .number ≡ y .number
+number-left e = ap (λ (f : Outcome). f .number) e
+
+length-left : {x y : Outcome} → x ≡ y → x .length ≡ y .length
+length-left e = ap (λ (f : Outcome). f .length) e
+
+table-left : {x y : Outcome} → x ≡ y → x .table ≡ y .table
+table-left e = ap (λ (f : Outcome). f .table) e
+
+answer-left : {x y : Outcome} → x ≡ y → x .answer ≡ y .answer
+answer-left e = ap (λ (f : Outcome). f .answer) e
+
+-- ---- a refusal changes nothing
+
+pub demand-1 : Demand1
+demand-1 =
+    record {
+      build-refuses = λ heads table d table′ p h.
+          let x = built-refused heads table (λ z. h (number-filled p ∙ z)) in
+          (length-filled p ∙ x .0, buffer-filled p ∙ x .1);
+      apply-refuses = λ table req answer d table′ answer′ p h.
+          let x = applied-refused table req answer (λ z. h (number-left p ∙ z)) in
+          (length-left p ∙ x .0, table-left p ∙ x .1, answer-left p ∙ x .2);
+      write-refuses = λ request items buffer d buffer′ p h.
+          let x = written-refused request items buffer (λ z. h (number-filled p ∙ z)) in
+          (length-filled p ∙ x .0, buffer-filled p ∙ x .1);
+      read-refuses = λ req d p h.
+          let x = read-refused req (λ z. h (number-read p ∙ z)) in
+          (request-read p ∙ x .0, items-read p ∙ x .1);
+      item-answers = λ req k. (itemAt req k, refl);
+    }
+
+-- ---- one outcome only
+
+pub one-outcome-only : OneOutcome
+one-outcome-only =
+    record {
+      build-once = λ heads table d e table′ table″ p q.
+          let o = one-outcome p q in
+          (number-filled o, length-filled o, buffer-filled o);
+      apply-once = λ table req answer d e table′ answer′ table″ answer″ p q.
+          let o = one-outcome p q in
+          (number-left o, length-left o, table-left o, answer-left o);
+      read-once = λ req d e p q.
+          let o = one-outcome p q in
+          (number-read o, request-read o, items-read o);
+      write-once = λ request items buffer d e buffer′ buffer″ p q.
+          let o = one-outcome p q in
+          (number-filled o, length-filled o, buffer-filled o);
+      item-once = λ req k m n p q. one-outcome p q;
+    }

@@ -1,0 +1,60 @@
+-- Demand 1: of every entry point, any bytes at all have one outcome, and a number other than 0 comes with length 0 and every buffer as it was.
+-- Said of all that meets the promises of the C surface (crate pws), each written here in the words of its contract.
+use mathlib.Core.Path.{_≡_}
+use mathlib.Core.List.{List}
+use Prim.Native.Nat.{ℕ}
+use Rattle.rules.specs.Applied.{built, written, readOf, itemAt, applied, noRequest}
+use Rattle.rules.specs.declared.Request.{Request}
+use Rattle.pws.specs.Surface.{filled, left, readTo}
+use Rattle.pws.specs.declared.PwsDone.{PwsDone}
+use Rattle.pws.specs.declared.PwsReading.{PwsReading}
+
+-- ---- the five promises: the arguments, then what is returned and what stands in the lent buffers afterwards
+
+abbrev pub BuildPromise : (heads table : List ℕ) → PwsDone → List ℕ → Type 0
+BuildPromise heads table d table′ = filled d table′ ≡ built heads table
+
+abbrev pub ApplyPromise : (table req answer : List ℕ) → PwsDone → List ℕ → List ℕ → Type 0
+ApplyPromise table req answer d table′ answer′ = left d table′ answer′ ≡ applied table req answer
+
+abbrev pub ReadPromise : (req : List ℕ) → PwsReading → Type 0
+ReadPromise req d = readTo d ≡ readOf req
+
+abbrev pub WritePromise : (request : Request) (items buffer : List ℕ) → PwsDone → List ℕ → Type 0
+WritePromise request items buffer d buffer′ = filled d buffer′ ≡ written request items buffer
+
+abbrev pub ItemPromise : (req : List ℕ) (k : ℕ) → ℕ → Type 0
+ItemPromise req k n = n ≡ itemAt req k
+
+-- ---- THE CLAIM: a refusal changes nothing
+
+-- whatever the bytes, and whatever is returned and left under the promise
+pub record Demand1 : Type 0 where
+  pub build-refuses : (heads table : List ℕ) (d : PwsDone) (table′ : List ℕ) → BuildPromise heads table d table′
+      → (d .number ≡ 0 → ⊥) → (d .length ≡ 0) × (table′ ≡ table)
+  pub apply-refuses : (table req answer : List ℕ) (d : PwsDone) (table′ answer′ : List ℕ) → ApplyPromise table req answer d table′ answer′
+      → (d .number ≡ 0 → ⊥) → (d .length ≡ 0) × (table′ ≡ table) × (answer′ ≡ answer)
+  pub write-refuses : (request : Request) (items buffer : List ℕ) (d : PwsDone) (buffer′ : List ℕ) → WritePromise request items buffer d buffer′
+      → (d .number ≡ 0 → ⊥) → (d .length ≡ 0) × (buffer′ ≡ buffer)
+  -- reading writes nothing; a refusal comes with no request and no items
+  pub read-refuses : (req : List ℕ) (d : PwsReading) → ReadPromise req d
+      → (d .number ≡ 0 → ⊥) → (d .request ≡ noRequest) × (d .items ≡ 0)
+  -- an item is a number whatever the bytes and the index; it is never refused, and nothing is written
+  pub item-answers : (req : List ℕ) (k : ℕ) → (n : ℕ) × ItemPromise req k n
+
+-- ---- THE CLAIM: one outcome only
+
+-- all that two calls with the same arguments return and leave is the same
+pub record OneOutcome : Type 0 where
+  pub build-once : (heads table : List ℕ) (d e : PwsDone) (table′ table″ : List ℕ)
+      → BuildPromise heads table d table′ → BuildPromise heads table e table″
+      → (d .number ≡ e .number) × (d .length ≡ e .length) × (table′ ≡ table″)
+  pub apply-once : (table req answer : List ℕ) (d e : PwsDone) (table′ answer′ table″ answer″ : List ℕ)
+      → ApplyPromise table req answer d table′ answer′ → ApplyPromise table req answer e table″ answer″
+      → (d .number ≡ e .number) × (d .length ≡ e .length) × (table′ ≡ table″) × (answer′ ≡ answer″)
+  pub read-once : (req : List ℕ) (d e : PwsReading) → ReadPromise req d → ReadPromise req e
+      → (d .number ≡ e .number) × (d .request ≡ e .request) × (d .items ≡ e .items)
+  pub write-once : (request : Request) (items buffer : List ℕ) (d e : PwsDone) (buffer′ buffer″ : List ℕ)
+      → WritePromise request items buffer d buffer′ → WritePromise request items buffer e buffer″
+      → (d .number ≡ e .number) × (d .length ≡ e .length) × (buffer′ ≡ buffer″)
+  pub item-once : (req : List ℕ) (k m n : ℕ) → ItemPromise req k m → ItemPromise req k n → m ≡ n
