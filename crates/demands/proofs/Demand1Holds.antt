@@ -1,11 +1,8 @@
 -- Demand 1 holds, and each promise admits one outcome only.
 -- What is returned and left is what the definition says, and the definition's refusals leave everything as it was.
-use mathlib.Core.Path.{_≡_, refl, sym, ap, _∙_}
-use mathlib.Core.List.{List}
-use Prim.Native.Nat.{ℕ}
+use mathlib.Core.Path.{_≡_, refl, ap, _∙_}
 use Rattle.octets.proofs.Once.{one-outcome}
-use Rattle.rules.specs.Applied.{Filled, ReadOutcome, Outcome, built, written, readOf, itemAt, applied}
-use Rattle.rules.specs.declared.Request.{Request}
+use Rattle.rules.specs.Applied.{Filled, ReadOutcome, Outcome, itemAt}
 use Rattle.rules.proofs.OutcomeLaws.{built-refused, written-refused, read-refused, applied-refused}
 use Rattle.demands.specs.Demand1.{Demand1, OneOutcome}
 

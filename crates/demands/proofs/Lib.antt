@@ -1,4 +1,5 @@
 pub mod Demand1Holds
+pub mod Demand2Holds
 pub mod Zip
 pub mod Positions
 pub mod Permutations
