@@ -31,7 +31,7 @@ use Rattle.demands.proofs.Runs.{reachesHead}
 
 -- ---- by computing
 
-bytes-tested : (l : List ℕ) → every (λ x. ltb x 256) l ≡ true → Bytes l
+pub bytes-tested : (l : List ℕ) → every (λ x. ltb x 256) l ≡ true → Bytes l
 unfolding every
 bytes-tested [] e i = omega arith
 bytes-tested (x ∷ l) e i = let h = both (ltb x 256) (every (λ y. ltb y 256) l) e in go i (ltb-true x 256 (h .0)) (bytes-tested l (h .1))

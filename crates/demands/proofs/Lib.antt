@@ -8,3 +8,4 @@ pub mod Demand3Holds
 pub mod Demand3Chains
 pub mod Demand3Besides
 pub mod Demand3SamplesHold
+pub mod Demand2RefutedHolds
