@@ -34,6 +34,8 @@ record Computed : Type 0 where
   stopped-new : applied (one (flood 0 0)) stopping blank ≡ leaves (one (free 4)) (answers 2 4370 16 1 ++ says 16 0 0)
   stopped-once : applied (one (flood 1 1)) stopping blank ≡ leaves (one (free 4)) (answers 2 4370 16 1 ++ says 16 1 0)
   stopped-twice : applied twice stopping blank ≡ leaves (one (free 4)) (answers 2 4370 16 1 ++ says 16 2 0)
+  -- a start needs room for one row of a cell
+  one-row : roomFor (requestOf starting .kind) 1 ≡ 26
   free-bytes : Bytes (one (free 4))
   two-bytes : Bytes (two (free 4) (free 4))
   new-bytes : Bytes (one (flood 0 0))
@@ -52,6 +54,7 @@ computed =
       stopped-new = refl;
       stopped-once = refl;
       stopped-twice = refl;
+      one-row = refl;
       free-bytes = bytes-tested (one (free 4)) refl;
       two-bytes = bytes-tested (two (free 4) (free 4)) refl;
       new-bytes = bytes-tested (one (flood 0 0)) refl;
@@ -118,7 +121,7 @@ module _ (u : CallUnit) (m : Meets u) where
   not-first-row : ReportsFirstCellOnly u → ⊥
   not-first-row h =
       let n : u (two (free 4) (free 4)) starting blank .length ≡ 40 = ap (λ (o : Outcome). o .length) started-two in
-      omega (arith, h (two (free 4) (free 4)) starting blank)
+      omega (arith, h (two (free 4) (free 4)) starting blank, computed .one-row)
 
   -- the text that the first call started is stopped by the second
   not-first-request : FirstRequestOnly u → ⊥

@@ -8,6 +8,8 @@ use lib.Seq.{sets}
 use Rattle.octets.specs.Runs.{Bytes, gets}
 use Rattle.octets.specs.Numbers.{be}
 use Rattle.rules.specs.Layout.{headerSize, cellSize, answerSize, rowSize}
+use Rattle.rules.specs.Record.{requestOf}
+use Rattle.rules.specs.Answer.{roomFor}
 use Rattle.rules.specs.Refusals.{numberOf}
 use Rattle.rules.specs.Applied.{Outcome, applied}
 use Rattle.rules.specs.Samples.{answers}
@@ -42,9 +44,9 @@ ChangesNothing u = (t r a : List ℕ) → u t r a .table ≡ t
 abbrev pub ChangesFirstCellOnly : CallUnit → Type 0
 ChangesFirstCellOnly u = (t r a : List ℕ) (k : ℕ) → 1 ≤ k → cellAt (u t r a .table) k ≡ cellAt t k
 
--- .. or no answer has more than the row of one cell
+-- .. or no answer is longer than what one cell can give
 abbrev pub ReportsFirstCellOnly : CallUnit → Type 0
-ReportsFirstCellOnly u = (t r a : List ℕ) → u t r a .length ≤ answerSize + rowSize
+ReportsFirstCellOnly u = (t r a : List ℕ) → u t r a .length ≤ roomFor (requestOf r .kind) 1
 
 -- on the table that an accepted call left, no other changes anything
 abbrev pub FirstRequestOnly : CallUnit → Type 0
