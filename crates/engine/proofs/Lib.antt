@@ -13,3 +13,4 @@ pub mod StopLaws
 pub mod ReadyLaws
 pub mod StartLaws
 pub mod KindLaws
+pub mod Once
