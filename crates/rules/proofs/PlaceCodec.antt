@@ -19,6 +19,7 @@ use Rattle.rules.specs.declared.Place.{Place}
 use Rattle.rules.proofs.ListsLaws.{both, and-true, zeros-replicate}
 use Rattle.rules.proofs.AllLaws.{All, none, more, all-every, every-all, all-imply, all-both, all-map, all-of, all-filled, bytes-flatMap-all, length-joined, pieces-joined}
 use Rattle.rules.proofs.FitLaws.{fits-Fit, Fit-fits, numbers-written, numbers-again, length-written}
+use Rattle.rules.proofs.SoundPlaceLaws.{places-facts}
 
 -- its numbers are below the limits of their fields
 abbrev pub FitPlace : Place → Type 0
@@ -194,37 +195,24 @@ pub sound-place : (p : Place) → soundPlace p ≡ true → FitPlace p × (legal
 unfolding soundPlace
 sound-place p e = both (fits placeFields (placeNumbers p)) (legalPlace p) e
 
-pub record SoundPlaces (ps : List Place) : Type 0 where
-  pub few : length ps ≤ placesPerCell
-  pub fit : All FitPlace ps
-  pub each : every legalPlace ps ≡ true
-  pub distinct : different ps ≡ true
+-- sound places fit their fields, and each is legal
+pub places-fit : (ps : List Place) → soundPlaces ps ≡ true → All FitPlace ps
+places-fit ps e = all-imply (λ p q. sound-place p q .0) (all-every soundPlace ps (places-facts ps e .each))
 
-pub sound-places : (ps : List Place) → soundPlaces ps ≡ true → SoundPlaces ps
-unfolding soundPlaces
-sound-places ps e =
-    let h = both _ _ e in
-    let k = both _ _ (h .0) in
-    let each : All (λ p. soundPlace p ≡ true) ps = all-every soundPlace ps (k .1) in
-    record {
-      few = leb-true (length ps) placesPerCell (k .0);
-      fit = all-imply (λ p q. sound-place p q .0) each;
-      each = every-all legalPlace (all-imply (λ p q. sound-place p q .1) each);
-      distinct = h .1;
-    }
+every-legal : (ps : List Place) → soundPlaces ps ≡ true → every legalPlace ps ≡ true
+every-legal ps e = every-all legalPlace (all-imply (λ p q. sound-place p q .1) (all-every soundPlace ps (places-facts ps e .each)))
 
 module _ (ps : List Place) (sound : soundPlaces ps ≡ true) where
   pub places-again : placesOf (pieces placeSize placesPerCell (placesBytes ps)) ≡ ps
-  places-again = let s = sound-places ps sound in rw (runs-of-places ps) (places-filled placesPerCell (s .few) (s .fit))
+  places-again = rw (runs-of-places ps) (places-filled placesPerCell (places-facts ps sound .few) (places-fit ps sound))
 
   pub places-legal : legalPlaces (pieces placeSize placesPerCell (placesBytes ps)) ≡ true
   unfolding legalPlaces
   places-legal =
-      let s = sound-places ps sound in
-      rw (places-again, runs-of-places ps, live-filled placesPerCell (s .fit), s .each) (s .distinct)
+      rw (places-again, runs-of-places ps, live-filled placesPerCell (places-fit ps sound), every-legal ps sound) (places-facts ps sound .apart)
 
   pub bytes-placesBytes : Bytes (placesBytes ps)
   unfolding placesBytes
   bytes-placesBytes =
-      let each : All Bytes (map placeBytes ps) = all-map Bytes placeBytes (all-imply bytes-placeBytes (sound-places ps sound .fit)) in
+      let each : All Bytes (map placeBytes ps) = all-map Bytes placeBytes (all-imply bytes-placeBytes (places-fit ps sound)) in
       bytes-flatMap-all (λ b. b) (all-filled placesPerCell freeBytes (bytes-replicate-zero placeSize) each)
