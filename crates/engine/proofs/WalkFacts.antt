@@ -12,7 +12,8 @@ use lib.ListN.{length, take, drop, length-drop, length-map}
 use lib.Seq.{sets, drop-drop, length-take-le}
 use Rattle.octets.specs.Runs.{Bytes, gets, pieces}
 use Rattle.octets.specs.Numbers.{be}
-use Rattle.octets.proofs.RunsLaws.{gets-eq, bytes-drop}
+use Rattle.octets.proofs.PiecesLaws.{pieces-next}
+use Rattle.octets.proofs.RunsLaws.{bytes-drop}
 use Rattle.rules.specs.Lists.{any, every}
 use Rattle.rules.specs.Layout.{headerSize, headSize, cellSize, recordSize, itemSize, answerSize, rowSize, placesPerCell, mostCells}
 use Rattle.rules.specs.Table.{headOf, cellOf, cellBytes, legalHead, legalCell, cellCount, cellRuns}
@@ -36,7 +37,7 @@ use Rattle.engine.specs.Step.{rowsBytes, Ready, Stepped}
 use Rattle.engine.specs.Reach.{namedBy}
 use Rattle.engine.specs.declared.reach.Naming.{Naming}
 use Rattle.engine.specs.Walk.{rowsAfter, tableAfter, WalkIn, WalkOut}
-use Rattle.engine.proofs.Walking.{Going, cell-long, cell-bytes, cell-legal, room-here, skip, step-cell, next-piece}
+use Rattle.engine.proofs.Walking.{Going, cell-long, cell-bytes, cell-legal, room-here, skip, step-cell}
 
 -- ---- the search among the items
 
@@ -52,7 +53,7 @@ module _ (p : ℕ → Bool) (r : List ℕ) (from todo : ℕ) where
   search-next : 0 < todo → from + itemSize * todo ≡ length r
       → any p (itemsFrom from todo r) ≡ (p (be (gets r from itemSize)) || any p (itemsFrom (from + itemSize) (todo - 1) r))
   unfolding any
-  search-next h e = rw (next-piece itemSize todo (drop from r) h, drop-drop itemSize from r, gets-eq itemSize r from (omega arith))
+  search-next h e = rw (pieces-next itemSize todo r from h (omega arith))
 
   pub search-hit : 0 < todo → from + itemSize * todo ≡ length r → p (be (gets r from itemSize)) ≡ true → any p (itemsFrom from todo r) ≡ true
   search-hit h e x = search-next h e ∙ rw x

@@ -10,6 +10,7 @@ use borrow.Rule.Slice.PartMut.{putMid, midOf, same-len-mid}
 use lib.ListN.{length, take, drop, length-append, length-drop, drop-of-length-le}
 use lib.Seq.{sets, sets-eq, length-sets, take-add, take-at, drop-at, drop-drop, take-all, length-take-le}
 use Rattle.octets.specs.Runs.{Bytes, pieces}
+use Rattle.octets.proofs.PiecesLaws.{pieces-more}
 use Rattle.octets.proofs.RunsLaws.{sets-run, length-flatMap, bytes-drop, bytes-take}
 use Rattle.rules.specs.Lists.{every}
 use Rattle.rules.specs.Layout.{cellSize, rowSize, answerSize, headerSize}
@@ -39,12 +40,7 @@ lent-sets s xs o m h e =
     let rest : drop m (drop o s) ≡ [] = drop-of-length-le (drop o s) short in
     rw (whole, rest, append-nil, sets-eq xs (drop o s) 0 (omega arith), sets-eq xs s o h, zero-add, drop-drop (length xs) o s, append-assoc)
 
--- ---- one piece of several
-
-pub next-piece : (w n : ℕ) (l : List ℕ) → 0 < n → pieces w n l ≡ take w l ∷ pieces w (n - 1) (drop w l)
-unfolding pieces
-next-piece w zero l h = absurd (omega arith)
-next-piece w (suc n) l h = let e : suc n - 1 ≡ n = omega arith in rw e
+-- ---- what is made of several, one more
 
 flat-cons : {A B : Type 0} (f : A → List B) (x : A) (xs : List A) → flatMap f (x ∷ xs) ≡ f x ++ flatMap f xs
 unfolding flatMap
@@ -94,9 +90,7 @@ module _ (f : List ℕ → List ℕ) (g : List ℕ → List Row) (per : ℕ) whe
       here = take cellSize (drop at t)
 
       next : pieces cellSize left (drop at t) ≡ take cellSize (drop at t) ∷ pieces cellSize (left - 1) (drop (at + cellSize) t)
-      next =
-          next-piece cellSize left (drop at t) some
-          ∙ ap (λ l. take cellSize (drop at t) ∷ pieces cellSize (left - 1) l) (drop-drop cellSize at t)
+      next = pieces-more cellSize left at t some
 
       cell-fine : (legalCell (take cellSize (drop at t)) ≡ true) × (every legalCell (pieces cellSize (left - 1) (drop (at + cellSize) t)) ≡ true)
       unfolding every

@@ -12,10 +12,10 @@ use Rattle.octets.proofs.FieldsLaws.{number-at}
 use Rattle.rules.specs.Layout.{field, headerFields, headFields, placeFields, headerSize, headSize, placeSize}
 use Rattle.rules.specs.Table.{areasUsed, allAreas, cellCount}
 
-pub field-at : (ws : List ℕ) (k : ℕ) (l : List ℕ) → k < length ws → offset ws k + getD ws k 0 ≤ length l
+at-offset : (ws : List ℕ) (k : ℕ) (l : List ℕ) → k < length ws → offset ws k + getD ws k 0 ≤ length l
     → be (gets l (offset ws k) (getD ws k 0)) ≡ field ws k l
 unfolding field
-field-at ws k l h fits = sym (number-at ws l k h fits)
+at-offset ws k l h fits = sym (number-at ws l k h fits)
 
 -- ---- the header
 
@@ -23,47 +23,47 @@ field-at ws k l h fits = sym (number-at ws l k h fits)
 module _ (t : List ℕ) (long : 5 ≤ length t) where
   pub mark-at : be (gets t 0 3) ≡ field headerFields 0 t
   unfolding offset
-  mark-at = field-at headerFields 0 t (omega arith) (omega arith)
+  mark-at = at-offset headerFields 0 t (omega arith) (omega arith)
 
   pub version-at : be (gets t 3 2) ≡ field headerFields 1 t
   unfolding offset
-  version-at = field-at headerFields 1 t (omega arith) (omega arith)
+  version-at = at-offset headerFields 1 t (omega arith) (omega arith)
 
 module _ (t : List ℕ) (long : headerSize ≤ length t) where
   pub count-at : be (gets t 5 2) ≡ cellCount t
   unfolding offset
-  count-at = field-at headerFields 2 t (omega arith) (omega arith)
+  count-at = at-offset headerFields 2 t (omega arith) (omega arith)
 
   pub places-at : be (gets t 7 1) ≡ field headerFields 3 t
   unfolding offset
-  places-at = field-at headerFields 3 t (omega arith) (omega arith)
+  places-at = at-offset headerFields 3 t (omega arith) (omega arith)
 
   pub spare-at : be (gets t 8 8) ≡ field headerFields 4 t
   unfolding offset
-  spare-at = field-at headerFields 4 t (omega arith) (omega arith)
+  spare-at = at-offset headerFields 4 t (omega arith) (omega arith)
 
 -- ---- a head
 
 module _ (b : List ℕ) (long : length b ≡ headSize) where
   pub identity-at : be (gets b 0 8) ≡ field headFields 0 b
   unfolding offset
-  identity-at = field-at headFields 0 b (omega arith) (omega arith)
+  identity-at = at-offset headFields 0 b (omega arith) (omega arith)
 
   pub code-at : be (gets b 8 3) ≡ field headFields 1 b
   unfolding offset
-  code-at = field-at headFields 1 b (omega arith) (omega arith)
+  code-at = at-offset headFields 1 b (omega arith) (omega arith)
 
   pub used-at : be (gets b 11 1) ≡ areasUsed b
   unfolding offset
-  used-at = field-at headFields 2 b (omega arith) (omega arith)
+  used-at = at-offset headFields 2 b (omega arith) (omega arith)
 
   pub areas-at : be (gets b 12 3) ∷ be (gets b 15 3) ∷ be (gets b 18 3) ∷ be (gets b 21 3) ∷ [] ≡ allAreas b
   unfolding offset field numbers
   areas-at =
-      let a : be (gets b 12 3) ≡ field headFields 3 b = field-at headFields 3 b (omega arith) (omega arith) in
-      let c : be (gets b 15 3) ≡ field headFields 4 b = field-at headFields 4 b (omega arith) (omega arith) in
-      let d : be (gets b 18 3) ≡ field headFields 5 b = field-at headFields 5 b (omega arith) (omega arith) in
-      let e : be (gets b 21 3) ≡ field headFields 6 b = field-at headFields 6 b (omega arith) (omega arith) in
+      let a : be (gets b 12 3) ≡ field headFields 3 b = at-offset headFields 3 b (omega arith) (omega arith) in
+      let c : be (gets b 15 3) ≡ field headFields 4 b = at-offset headFields 4 b (omega arith) (omega arith) in
+      let d : be (gets b 18 3) ≡ field headFields 5 b = at-offset headFields 5 b (omega arith) (omega arith) in
+      let e : be (gets b 21 3) ≡ field headFields 6 b = at-offset headFields 6 b (omega arith) (omega arith) in
       rw (a, c, d, e)
 
 -- ---- a place
@@ -71,40 +71,40 @@ module _ (b : List ℕ) (long : length b ≡ headSize) where
 module _ (b : List ℕ) (long : length b ≡ placeSize) where
   pub identifier-at : be (gets b 0 2) ≡ field placeFields 0 b
   unfolding offset
-  identifier-at = field-at placeFields 0 b (omega arith) (omega arith)
+  identifier-at = at-offset placeFields 0 b (omega arith) (omega arith)
 
   pub serial-at : be (gets b 2 2) ≡ field placeFields 1 b
   unfolding offset
-  serial-at = field-at placeFields 1 b (omega arith) (omega arith)
+  serial-at = at-offset placeFields 1 b (omega arith) (omega arith)
 
   pub content-at : be (gets b 4 4) ≡ field placeFields 2 b
   unfolding offset
-  content-at = field-at placeFields 2 b (omega arith) (omega arith)
+  content-at = at-offset placeFields 2 b (omega arith) (omega arith)
 
   pub period-at : be (gets b 8 2) ≡ field placeFields 3 b
   unfolding offset
-  period-at = field-at placeFields 3 b (omega arith) (omega arith)
+  period-at = at-offset placeFields 3 b (omega arith) (omega arith)
 
   pub requested-at : be (gets b 10 2) ≡ field placeFields 4 b
   unfolding offset
-  requested-at = field-at placeFields 4 b (omega arith) (omega arith)
+  requested-at = at-offset placeFields 4 b (omega arith) (omega arith)
 
   pub sent-at : be (gets b 12 2) ≡ field placeFields 5 b
   unfolding offset
-  sent-at = field-at placeFields 5 b (omega arith) (omega arith)
+  sent-at = at-offset placeFields 5 b (omega arith) (omega arith)
 
   pub wait-at : be (gets b 14 2) ≡ field placeFields 6 b
   unfolding offset
-  wait-at = field-at placeFields 6 b (omega arith) (omega arith)
+  wait-at = at-offset placeFields 6 b (omega arith) (omega arith)
 
   pub sib-at : be (gets b 16 1) ≡ field placeFields 7 b
   unfolding offset
-  sib-at = field-at placeFields 7 b (omega arith) (omega arith)
+  sib-at = at-offset placeFields 7 b (omega arith) (omega arith)
 
   pub live-at : be (gets b 17 1) ≡ field placeFields 8 b
   unfolding offset
-  live-at = field-at placeFields 8 b (omega arith) (omega arith)
+  live-at = at-offset placeFields 8 b (omega arith) (omega arith)
 
   pub filling-at : be (gets b 18 2) ≡ field placeFields 9 b
   unfolding offset
-  filling-at = field-at placeFields 9 b (omega arith) (omega arith)
+  filling-at = at-offset placeFields 9 b (omega arith) (omega arith)

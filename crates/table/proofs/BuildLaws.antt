@@ -15,7 +15,7 @@ use Rattle.octets.proofs.NumbersLaws.{length-toBe}
 use Rattle.rules.specs.Layout.{placesPerCell, headerSize, headSize, cellSize, tableMark, tableVersion}
 use Rattle.rules.specs.Table.{headerBytes}
 use Rattle.table.specs.Build.{emptyRun}
-use Rattle.table.proofs.PiecesLaws.{pieces-more, pieces-none}
+use Rattle.octets.proofs.PiecesLaws.{pieces-more, pieces-none}
 
 -- ---- the header
 

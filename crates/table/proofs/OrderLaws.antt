@@ -23,7 +23,8 @@ use Rattle.rules.proofs.HeadCodec.{legal-head}
 use Rattle.rules.proofs.CellCodec.{legal-cell}
 use Rattle.rules.proofs.OffsetLaws.{identity-at}
 use Rattle.table.specs.Judge.{legalRuns}
-use Rattle.table.proofs.PiecesLaws.{pieces-more, pieces-none, piece-fits}
+use Rattle.octets.proofs.PiecesLaws.{pieces-more, pieces-none}
+use Rattle.table.proofs.PiecesLaws.{piece-fits}
 
 -- strictly ascending, and none below a bound
 unfoldable pub rising : ℕ → List ℕ → Bool

@@ -1,5 +1,5 @@
--- The pieces of a list from an index on, one more and none: what a walk over cells, heads or places peels off in a turn.
--- By `drop-drop`; where the last places are written out in code, their pieces are written out too.
+-- The last places of a cell written out, and what a walk over pieces lends in a turn.
+-- By `drop-drop`: where code writes places out, their pieces are written out too.
 use mathlib.Core.Path.{_≡_, refl}
 use mathlib.Core.Bool.{Bool, _&&_, and-assoc, and-true}
 use mathlib.Core.List.{List, [], _∷_}
@@ -11,16 +11,6 @@ use lib.Seq.{take-all, drop-drop}
 use Rattle.octets.specs.Runs.{gets, pieces}
 use Rattle.octets.proofs.RunsLaws.{gets-eq}
 use Rattle.rules.specs.Lists.{every}
-
-pub pieces-more : (w left at : ℕ) (l : List ℕ) → 0 < left → pieces w left (drop at l) ≡ take w (drop at l) ∷ pieces w (left - 1) (drop (at + w) l)
-unfolding pieces
-pieces-more w zero at l h = absurd (omega arith)
-pieces-more w (suc n) at l h = let e : suc n - 1 ≡ n = omega arith in rw (e, drop-drop w at l)
-
-pub pieces-none : (w left : ℕ) (l : List ℕ) → left ≤ 0 → pieces w left l ≡ []
-unfolding pieces
-pieces-none w zero l h = refl
-pieces-none w (suc n) l h = absurd (omega arith)
 
 -- ---- one to four places of 20 bytes, written out
 

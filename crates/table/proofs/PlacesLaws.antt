@@ -19,7 +19,7 @@ use Rattle.rules.specs.Table.{isFree, legalPlaces}
 use Rattle.rules.proofs.AllLaws.{all-pieces}
 use Rattle.rules.proofs.OffsetLaws.{live-at}
 use Rattle.table.specs.Judge.{legalLive}
-use Rattle.table.proofs.PiecesLaws.{pieces-more, pieces-none}
+use Rattle.octets.proofs.PiecesLaws.{pieces-more, pieces-none}
 use Rattle.table.proofs.WalkLaws.{liveByte, textAt, noText, walk, walk-starts}
 
 pub record PlacesLeft (l : List ℕ) (at left x y z : ℕ) : Type 0 where
