@@ -160,6 +160,10 @@ AllHold (s ∷ ss) = (lastOf (s .before) (s .first) (s .more) ≡ s .gives) × A
 
 -- ---- the rows that are not marked, and readings that no row shows
 
+-- a table of two cells with these places
+abbrev pub two : List ℕ → List ℕ → List ℕ
+two a b = header 2 ++ head 16 1 ++ a ++ head 32 2 ++ b
+
 -- a head with one emergency area, the identifier 0
 abbrev pub areaZero : List ℕ → List ℕ
 areaZero places = header 1 ++ identity 16 ++ (0 ∷ 0 ∷ 1 ∷ 1 ∷ replicate 12 0) ++ places
@@ -175,6 +179,9 @@ furtherSamples =
     (leaves (one (text 4370 7 1 0 65535 0 ++ free 3)) (answers 5 0 0 1 ++ says 16 65535 7))
     -- area 1 with n = 0: 5
     ∷ sample twice (cancels 4 4370 16 1 0 []) [] (refuses 5 twice)
+    -- a full cell fails nothing and ends nothing: the cell behind it starts the text
+    ∷ sample (two four (free 4)) (starts 1 4370 7 2 3) []
+    (leaves (two four (text 4370 7 2 3 0 0 ++ free 3)) (answers 1 4370 16 1 ++ says 32 0 0))
     -- the first text ends, and the others close up in order
     ∷ sample (one (text 1 7 5 2 1 0 ++ text 2 8 5 3 1 4 ++ text 3 9 5 3 1 4 ++ free 1)) passes []
     (leaves (one (text 2 8 5 3 1 3 ++ text 3 9 5 3 1 3 ++ free 2)) (answers 5 0 0 1 ++ says 16 2 7))
@@ -194,10 +201,6 @@ furtherSamples =
     ∷ []
 
 -- ---- the program's example: two cells, seven requests
-
--- both cells with a place each; and with none in the second
-abbrev pub two : List ℕ → List ℕ → List ℕ
-two a b = header 2 ++ head 16 1 ++ a ++ head 32 2 ++ b
 
 -- 4370/16 with so many sent, and so many seconds to wait
 abbrev pub flood : ℕ → ℕ → List ℕ
