@@ -1,0 +1,4 @@
+pub mod TextLaws
+pub mod LineLaws
+pub mod FrameLaws
+pub mod ServeLaws

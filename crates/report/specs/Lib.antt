@@ -1,0 +1,4 @@
+pub mod Text
+pub mod Framing
+pub mod Report
+pub mod Running
