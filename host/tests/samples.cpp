@@ -1,41 +1,5 @@
 // Document 01's samples through the C surface: P1 to P13 on a table of one cell, and the program's example whole.
-#include "pws.h"
-
-#include <cstdio>
-#include <cstring>
-#include <string>
-#include <vector>
-
-using Bytes = std::vector<uint8_t>;
-
-static int passed = 0;
-static int failed = 0;
-
-static void expect(bool ok, const std::string &what) {
-    if (ok) {
-        ++passed;
-    } else {
-        ++failed;
-        std::printf("FAILED: %s\n", what.c_str());
-    }
-}
-
-static void put(Bytes &to, uint64_t number, int width) {
-    for (int shift = 8 * (width - 1); shift >= 0; shift -= 8) {
-        to.push_back(static_cast<uint8_t>(number >> shift));
-    }
-}
-
-static Bytes head(uint64_t identity, uint32_t code) {
-    Bytes b;
-    put(b, identity, 8);
-    put(b, code, 3);
-    b.resize(24);
-    return b;
-}
-
-static const uint64_t FIRST = 0x00f110000000010;
-static const uint64_t SECOND = 0x00f110000000020;
+#include "check.hpp"
 
 struct Row {
     uint64_t identity;
@@ -48,14 +12,6 @@ struct Outcome {
     uint32_t number;
     std::vector<Row> rows;
 };
-
-static uint64_t get(const Bytes &from, size_t at, int width) {
-    uint64_t n = 0;
-    for (int i = 0; i < width; ++i) {
-        n = n * 256 + from[at + i];
-    }
-    return n;
-}
 
 struct Unit {
     Bytes table;
@@ -81,7 +37,8 @@ struct Unit {
         pws_done done = pws_apply(table.data(), table.size(), record.data(), record.size(), answer.data(), answer.size());
         Outcome outcome{done.number, {}};
         for (size_t at = 12; done.number == 0 && at < done.length; at += 14) {
-            outcome.rows.push_back({get(answer, at, 8), static_cast<uint16_t>(get(answer, at + 8, 2)), static_cast<uint32_t>(get(answer, at + 10, 4))});
+            outcome.rows.push_back(
+                {get(answer, at, 8), static_cast<uint16_t>(get(answer, at + 8, 2)), static_cast<uint32_t>(get(answer, at + 10, 4))});
         }
         for (size_t at = done.length; at < answer.size(); ++at) {
             if (answer[at] != 0xee) {
@@ -101,16 +58,6 @@ struct Unit {
     }
     uint64_t sent() const { return get(table, 16 + 24 + 12, 2); }
 };
-
-static pws_request start(uint16_t identifier, uint32_t period, uint16_t requested, uint8_t flags = 0) {
-    return {1, flags, 0, identifier, 16, 7, period, requested, 8};
-}
-
-static pws_request cancel(uint8_t flags, uint16_t identifier, uint16_t serial, uint8_t area = 0) {
-    return {2, flags, area, identifier, serial, 0, 0, 0, 0};
-}
-
-static const pws_request second = {5, 0, 0, 0, 0, 0, 0, 0, 0};
 
 static Unit one() { return Unit({head(FIRST, 1)}); }
 
@@ -193,7 +140,9 @@ static std::string shown(const pws_request &request, const Outcome &outcome) {
 static void example() {
     Unit unit({head(FIRST, 1), head(SECOND, 2)});
     std::string text;
-    auto run = [&](const pws_request &request, const std::vector<uint64_t> &items = {}) { text += shown(request, unit.apply(request, items)); };
+    auto run = [&](const pws_request &request, const std::vector<uint64_t> &items = {}) {
+        text += shown(request, unit.apply(request, items));
+    };
     run(start(4370, 2, 3));
     run(second);
     run(second);
@@ -201,9 +150,8 @@ static void example() {
     run(cancel(4, 4370, 16, 2), {0x00f110000002});
     run(cancel(2, 0, 0));
     run(cancel(4, 4370, 16));
-    expect(text ==
-               "ok 1 2\n00f110000000010 0 0\n00f110000000020 0 0\nok 5 2\n00f110000000010 1 7\n00f110000000020 1 7\nok 5 0\n"
-               "ok 5 2\n00f110000000010 2 7\n00f110000000020 2 7\nok 2 1\n00f110000000020 2 0\nok 2 1\n00f110000000010 0 0\nok 2 0\n",
+    expect(text == "ok 1 2\n00f110000000010 0 0\n00f110000000020 0 0\nok 5 2\n00f110000000010 1 7\n00f110000000020 1 7\nok 5 0\n"
+                   "ok 5 2\n00f110000000010 2 7\n00f110000000020 2 7\nok 2 1\n00f110000000020 2 0\nok 2 1\n00f110000000010 0 0\nok 2 0\n",
            "document 01's example");
 }
 
@@ -215,8 +163,12 @@ static void round_trip() {
     pws_done done = pws_write(request, items, 2, record.data(), record.size());
     pws_reading reading = pws_read(record.data(), done.length);
     expect(done.number == 0 && done.length == 42 && record[42] == 0xee, "a record is written, and the bytes behind it stay");
-    expect(reading.number == 0 && reading.items == 2 && reading.request.kind == 2 && reading.request.identifier == 4370 && reading.request.serial == 16 && reading.request.area == 1, "its fields read back");
-    expect(pws_item(record.data(), done.length, 0) == FIRST && pws_item(record.data(), done.length, 1) == SECOND && pws_item(record.data(), done.length, 2) == 0, "its items read back");
+    expect(reading.number == 0 && reading.items == 2 && reading.request.kind == 2 && reading.request.identifier == 4370 &&
+               reading.request.serial == 16 && reading.request.area == 1,
+           "its fields read back");
+    expect(pws_item(record.data(), done.length, 0) == FIRST && pws_item(record.data(), done.length, 1) == SECOND &&
+               pws_item(record.data(), done.length, 2) == 0,
+           "its items read back");
 }
 
 int main() {
@@ -224,6 +176,5 @@ int main() {
     cancels();
     example();
     round_trip();
-    std::printf("%d passed, %d failed\n", passed, failed);
-    return failed == 0 ? 0 : 1;
+    return report();
 }
