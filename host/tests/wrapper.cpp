@@ -1,0 +1,154 @@
+// pws.hpp's own behaviour: its texts, sizes, empty spans, heads and rows. What the library behind it does is tested elsewhere.
+#include "check.hpp"
+#include "pws.hpp"
+
+#include <algorithm>
+#include <array>
+#include <iterator>
+#include <set>
+#include <span>
+#include <type_traits>
+
+static_assert(std::forward_iterator<pws::Answer::Iterator>);
+static_assert(!std::is_convertible_v<pws::Seconds, pws::Broadcasts> && !std::is_convertible_v<pws::Broadcasts, pws::Seconds>);
+static_assert(!std::is_convertible_v<int, pws::Seconds> && !std::is_convertible_v<int, pws::Broadcasts>);
+static_assert(noexcept(pws::build({}, {})) &&noexcept(pws::apply({}, {}, {})) &&noexcept(pws::read({})));
+static_assert(noexcept(pws::write({}, {}, {})) &&noexcept(pws::item({}, 0)) &&noexcept(pws::text({})));
+
+static constexpr pws::Request FLOOD{.kind = pws::Kind::write_replace,
+                                    .flags = pws::Flags::concurrent,
+                                    .area = pws::Area::cells,
+                                    .identifier = 4370,
+                                    .serial = 16,
+                                    .content = 0x01020304,
+                                    .period = pws::Seconds{4095},
+                                    .requested = pws::Broadcasts{3},
+                                    .sib = 8};
+
+static constexpr pws::Request SECOND_PASSES{.kind = pws::Kind::second};
+
+static void texts() {
+    std::set<std::string_view> distinct;
+    for (uint32_t number = 0; number <= 10; ++number) {
+        distinct.insert(pws::text(static_cast<pws::Refusal>(number)));
+    }
+    expect(distinct.size() == 11 && !distinct.contains(""), "0, each refusal and a number beyond them have texts of their own");
+    expect(pws::text(static_cast<pws::Refusal>(UINT32_MAX)) == pws::text(static_cast<pws::Refusal>(10)), "numbers beyond share one text");
+}
+
+static void sizes() {
+    expect(pws::table_size(1) == 120 && pws::table_size(pws::layout::MOST_CELLS) == 53264, "table sizes are 16 + 104 N");
+    expect(pws::record_size(0) == 26 && pws::record_size(pws::layout::MOST_ITEMS) == 4122, "record sizes are 26 + 8 n");
+    const auto size = [](pws::Kind kind) { return pws::answer_size(pws::layout::MOST_CELLS, kind); };
+    using enum pws::Kind;
+    expect(size(write_replace) == 7180 && size(cancel) == 7180 && size(restart) == 7180 && size(failure) == 7180, "answers take 12 + 14 N");
+    expect(size(second) == 28684, "a second's answer takes 12 + 56 N");
+}
+
+static void flags() {
+    using enum pws::Flags;
+    const pws::Flags both = cancel_all | notification;
+    expect(static_cast<uint8_t>(both) == 6, "flags add up");
+    expect(has(both, cancel_all) && has(both, notification) && has(both, both) && !has(both, concurrent) && !has(cancel_all, both),
+           "a flag is found where it is set");
+}
+
+// pws.h forbids null; a span without elements has a null pointer here.
+static void empty_spans() {
+    Bytes table(pws::table_size(1)), record(pws::record_size(0)), answer(pws::answer_size(1, pws::Kind::second));
+    const Bytes heads = head(FIRST, 1);
+    expect(pws::build({}, table).refusal == pws::Refusal::bad_heads, "no heads");
+    expect(pws::build(heads, {}).refusal == pws::Refusal::short_buffer, "no room for a table");
+    expect(bool(pws::build(heads, table)), "a table");
+    expect(pws::write(SECOND_PASSES, {}, {}).refusal == pws::Refusal::short_buffer, "no room for a record");
+    expect(bool(pws::write(SECOND_PASSES, {}, record)), "a record without items");
+    expect(pws::apply({}, record, answer).refusal == pws::Refusal::table_mark, "no table");
+    expect(pws::apply(table, {}, answer).refusal == pws::Refusal::record_mark, "no record to apply");
+    expect(pws::apply(table, record, {}).refusal == pws::Refusal::short_buffer, "no room for an answer");
+    expect(pws::apply({}, {}, {}).refusal == pws::Refusal::table_mark, "nothing at all");
+    expect(pws::read({}).refusal == pws::Refusal::record_mark && pws::item({}, 0) == 0, "no record to read");
+    expect(pws::Answer{{}}.empty() && pws::Answer{{}}.kind() == pws::Kind{}, "no answer has no rows");
+}
+
+static void heads() {
+    std::array<uint8_t, pws::layout::HEAD> bytes;
+    bytes.fill(0xee);
+    expect(pws::put_head({.cell = FIRST, .code = 1 << 24}, bytes) == pws::Refusal::bad_heads, "a code wider than 3 bytes");
+    expect(pws::put_head({.cell = FIRST, .used = 1, .areas = {1 << 24}}, bytes) == pws::Refusal::bad_heads, "an area wider than 3 bytes");
+    expect(std::ranges::all_of(bytes, [](uint8_t byte) { return byte == 0xee; }), "a refused head is not written");
+    const pws::Head most{.cell = FIRST, .code = 0xffffff, .used = 4, .areas = {0, 5, 9, 0xffffff}};
+    expect(pws::put_head(most, bytes) == pws::Refusal::none, "a head with four areas");
+    expect(std::ranges::equal(bytes, head(FIRST, 0xffffff, {0, 5, 9, 0xffffff})), "it has document 01's layout");
+    Bytes table(pws::table_size(1));
+    expect(bool(pws::build(bytes, table)), "it builds");
+}
+
+static void write_then_read() {
+    const std::array<uint64_t, 2> items{SECOND, FIRST};
+    Bytes buffer(pws::record_size(2) + 1, 0xee);
+    const pws::Done done = pws::write(FLOOD, items, buffer);
+    expect(bool(done) && done.written.data() == buffer.data() && done.written.size() == 42 && buffer[42] == 0xee, "a record is written");
+    const pws::Reading reading = pws::read(done.written);
+    expect(bool(reading) && reading.request == FLOOD && reading.items == 2, "its fields read back");
+    expect(pws::item(done.written, 0) == SECOND && pws::item(done.written, 1) == FIRST, "its items read back");
+    expect(pws::item(done.written, 2) == 0 && pws::item(done.written, SIZE_MAX) == 0, "an item past the end is 0");
+    buffer[0] = 'p';
+    const pws::Reading refused = pws::read(done.written);
+    expect(!refused && refused.refusal == pws::Refusal::record_mark && refused.request == pws::Request{} && refused.items == 0,
+           "a refused reading is all 0");
+}
+
+// Two cells with one text, a second later.
+static void rows() {
+    Bytes heads = head(FIRST, 1), table(pws::table_size(2)), record(pws::record_size(2)),
+          buffer(pws::answer_size(2, pws::Kind::second) + 20);
+    const Bytes other = head(SECOND, 2);
+    heads.insert(heads.end(), other.begin(), other.end());
+    const std::array<uint64_t, 2> cells{FIRST, SECOND};
+    expect(bool(pws::build(heads, table)), "a table of two cells");
+    const pws::Done started = pws::apply(table, pws::write(FLOOD, cells, record).written, buffer);
+    const pws::Answer start{started.written};
+    expect(start.size() == 2 && start.kind() == pws::Kind::write_replace && start.identifier() == 4370 && start.serial() == 16,
+           "an answer says what it answers");
+    expect((*start.begin() == pws::Row{FIRST, pws::Broadcasts{0}, 0}), "a start's row");
+    const pws::Done passes = pws::apply(table, pws::write(SECOND_PASSES, {}, record).written, buffer);
+    const std::array<pws::Row, 2> sent{{{FIRST, pws::Broadcasts{1}, 0x01020304}, {SECOND, pws::Broadcasts{1}, 0x01020304}}};
+    expect(std::ranges::equal(pws::Answer{passes.written}, sent), "a second's rows, in order");
+    expect(std::ranges::equal(pws::Answer{buffer}, sent), "the buffer behind an answer holds no rows");
+    expect(pws::Answer{passes.written.first(12 + 27)}.size() == 1, "a row that is cut off is none");
+    bool none = true;
+    for (size_t length = 0; length < 12 + 14; ++length) {
+        none &= pws::Answer{passes.written.first(length)}.empty();
+    }
+    expect(none, "an answer cut before its first row has none");
+    expect(bool(pws::apply(table, pws::write(SECOND_PASSES, {}, record).written, buffer)) && pws::Answer{buffer}.empty(),
+           "no broadcast, no row");
+}
+
+static void refusals_leave_buffers() {
+    Bytes table(pws::table_size(1)), record(pws::record_size(1), 0xee), answer(pws::answer_size(1, pws::Kind::second) - 1, 0xee);
+    expect(bool(pws::build(head(FIRST, 1), table)), "a table of one cell");
+    const Bytes table_before = table, record_before = record, answer_before = answer;
+    pws::Request slow = FLOOD;
+    slow.period = pws::Seconds{4096};
+    const std::array<uint64_t, 1> cells{FIRST};
+    const pws::Done unwritten = pws::write(slow, cells, record);
+    expect(unwritten.refusal == pws::Refusal::record_limits && unwritten.written.empty() && record == record_before, "a refused record");
+    const pws::Done unapplied = pws::apply(table, pws::write(SECOND_PASSES, {}, record).written, answer);
+    expect(unapplied.refusal == pws::Refusal::short_buffer && unapplied.written.empty(), "a refused second");
+    expect(table == table_before && answer == answer_before, "leaves table and answer");
+    const pws::Done unbuilt = pws::build(head(uint64_t{1} << 60, 1), table);
+    expect(unbuilt.refusal == pws::Refusal::bad_heads && unbuilt.written.empty() && table == table_before, "a refused table");
+}
+
+int main() {
+    texts();
+    sizes();
+    flags();
+    empty_spans();
+    heads();
+    write_then_read();
+    rows();
+    refusals_leave_buffers();
+    return report();
+}
