@@ -1,4 +1,4 @@
-.PHONY: run test
+.PHONY: run test host-programs host-test
 
 # One story, as a script and as what is reported of it, by the second implementation: make run SCRIPT=examples/one-yard.txt
 SCRIPT ?= examples/example.txt
@@ -10,9 +10,23 @@ run: target/host/samples
 	@echo '--'
 	@target/second/debug/script < $(SCRIPT) | target/second/debug/report
 
-target/host/samples: target/staticlib/libpws.a host/tests/samples.cpp host/include/pws.h
-	mkdir -p target/host
-	g++ -std=c++20 -Wall -Wextra -Werror -Ihost/include host/tests/samples.cpp target/staticlib/libpws.a -o $@
+# The host's programs. The tests are built with sanitizers; libpws.a itself is not instrumented.
+HOST_TESTS = samples wrapper rules edges
+HOST_FLAGS = -std=c++20 -Wall -Wextra -Wpedantic -Wconversion -Werror -Ihost/include
+HOST_NEEDS = $(wildcard host/include/* host/tests/*.hpp) target/staticlib/libpws.a
+
+host-programs: $(HOST_TESTS:%=target/host/%) target/host/two_yards
+
+$(HOST_TESTS:%=target/host/%): target/host/%: host/tests/%.cpp $(HOST_NEEDS)
+	@mkdir -p $(@D)
+	$(CXX) $(HOST_FLAGS) -g -fsanitize=address,undefined $< target/staticlib/libpws.a -o $@
+
+target/host/two_yards: host/example/two_yards.cpp $(HOST_NEEDS)
+	@mkdir -p $(@D)
+	$(CXX) $(HOST_FLAGS) -O2 $< target/staticlib/libpws.a -o $@
+
+host-test: host-programs
+	@host/tests/all.sh
 
 target/staticlib/libpws.a: $(shell find crates -name '*.rt' -o -name '*.antt')
 	rt staticlib pws
