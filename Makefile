@@ -1,4 +1,4 @@
-.PHONY: run test host-programs host-test
+.PHONY: run test host-programs host-test install
 
 # One story, as a script and as what is reported of it, by the second implementation: make run SCRIPT=examples/one-yard.txt
 SCRIPT ?= examples/example.txt
@@ -27,6 +27,19 @@ target/host/two_yards: host/example/two_yards.cpp $(HOST_NEEDS)
 
 host-test: host-programs
 	@host/tests/all.sh
+
+# What is installed names neither DESTDIR nor PREFIX, so it may be staged and moved.
+PREFIX ?= /usr/local
+INTO = $(DESTDIR)$(PREFIX)
+VERSIONED = sed 's|@VERSION@|$(shell cat host/VERSION)|'
+
+install: target/staticlib/libpws.a
+	install -d "$(INTO)/include" "$(INTO)/lib/pkgconfig" "$(INTO)/lib/cmake/pws"
+	install -m 644 host/include/pws.h host/include/pws.hpp "$(INTO)/include"
+	install -m 644 target/staticlib/libpws.a "$(INTO)/lib"
+	install -m 644 host/pws-config.cmake "$(INTO)/lib/cmake/pws"
+	$(VERSIONED) host/pws-config-version.cmake.in | install -m 644 /dev/stdin "$(INTO)/lib/cmake/pws/pws-config-version.cmake"
+	$(VERSIONED) host/pws.pc.in | install -m 644 /dev/stdin "$(INTO)/lib/pkgconfig/pws.pc"
 
 target/staticlib/libpws.a: $(shell find crates -name '*.rt' -o -name '*.antt')
 	rt staticlib pws

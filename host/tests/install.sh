@@ -1,0 +1,61 @@
+#!/usr/bin/env bash
+# Installs the library under target/ and builds the example from what was installed, as hosts do: by pkg-config and by
+# find_package. Every way of installing gives the same files.
+set -euo pipefail
+cd "$(dirname "$0")/../.."
+. host/tests/check.sh
+root=$PWD/target/host/install
+version=$(cat host/VERSION)
+rm -rf "$root"
+mkdir -p "$root"
+
+installed() {
+    diff - <(cd "$root/prefix" && find . -type f | sort) <<'END'
+./include/pws.h
+./include/pws.hpp
+./lib/cmake/pws/pws-config-version.cmake
+./lib/cmake/pws/pws-config.cmake
+./lib/libpws.a
+./lib/pkgconfig/pws.pc
+END
+}
+
+by_pkg_config() {
+    local -x PKG_CONFIG_PATH=$root/prefix/lib/pkgconfig
+    local flags
+    pkg-config --exact-version="$version" pws && read -ra flags <<<"$(pkg-config --cflags --libs pws)" &&
+        g++ -std=c++20 host/example/two_yards.cpp "${flags[@]}" -o "$root/by_pkg_config"
+}
+
+by_find_package() {
+    cmake -S host/tests/consumer -B "$root/consumer" -DCMAKE_PREFIX_PATH="$root/prefix" -DPWS_VERSION="$version" >/dev/null &&
+        cmake --build "$root/consumer" >/dev/null
+}
+
+by_cmake() {
+    cmake -S host -B "$root/build" >/dev/null && cmake --install "$root/build" --prefix "$root/by_cmake" >/dev/null
+}
+
+prints_the_same() { diff host/example/two_yards.out <("$1"); }
+
+check "make install" make --silent --no-print-directory install PREFIX="$root/prefix"
+check "its files" installed
+check "make install with DESTDIR" make --silent --no-print-directory install DESTDIR="$root/stage" PREFIX=/opt/pws
+check "the same files" diff -r "$root/prefix" "$root/stage/opt/pws"
+
+if command -v pkg-config >/dev/null; then
+    check "the example by pkg-config" by_pkg_config
+    check "it prints the same" prints_the_same "$root/by_pkg_config"
+else
+    echo "skipped: pkg-config is not installed"
+fi
+
+if command -v cmake >/dev/null; then
+    check "the example by find_package" by_find_package
+    check "it prints the same" prints_the_same "$root/consumer/two_yards"
+    check "cmake --install" by_cmake
+    check "the same files" diff -r "$root/prefix" "$root/by_cmake"
+else
+    echo "skipped: cmake is not installed"
+fi
+report
