@@ -1,4 +1,3 @@
-pub mod TextLaws
-pub mod LineLaws
-pub mod FrameLaws
 pub mod ServeLaws
+pub mod Once
+pub mod ExampleHolds

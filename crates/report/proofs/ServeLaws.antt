@@ -22,8 +22,8 @@ use Rattle.rules.specs.declared.Verdict.{Verdict}
 use Rattle.rules.specs.declared.Verdict.the-variants.{Accepted, Refused}
 use Rattle.rules.proofs.AppliedLaws.{length-answerBytes, answer-fits}
 use Rattle.rules.proofs.OutcomeLaws.{number-positive}
-use Rattle.report.specs.Text.{mostPlaces, longestRow, rowCount, answerText, noText, saidOf, Said}
-use Rattle.report.specs.Framing.{stopsAt}
+use Rattle.lines.specs.Text.{mostPlaces, longestRow, rowCount, answerText, noText, saidOf, Said}
+use Rattle.lines.specs.Framing.{stopsAt}
 use Rattle.report.specs.Report.{answerRoom, mostText, Turned}
 
 -- ---- an answer lies in its buffer

@@ -1,4 +1,3 @@
-pub mod Text
-pub mod Framing
 pub mod Report
 pub mod Running
+pub mod Example

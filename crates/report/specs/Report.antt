@@ -7,9 +7,9 @@ use lib.Dec.{eqb, leb}
 use lib.ListN.{length, take, drop, replicate}
 use Rattle.rules.specs.Layout.{headerSize, cellSize, headSize, mostCells, placesPerCell, answerSize, rowSize}
 use Rattle.rules.specs.Applied.{Filled, built, applied}
-use Rattle.report.specs.Text.{mostPlaces, longestRow, saidOf, noText, Said}
+use Rattle.lines.specs.Text.{mostPlaces, longestRow, saidOf, noText, Said}
 use Rattle.report.specs.declared.serve.Turn.{Turn}
-use Rattle.report.specs.Framing.{countSize, cellsNamed, headsEnd, frameOf, stopsAt}
+use Rattle.lines.specs.Framing.{countSize, cellsNamed, headsEnd, frameOf, stopsAt}
 
 -- the largest answer that a table of n cells gives
 abbrev pub answerRoom : ℕ → ℕ

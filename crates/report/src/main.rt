@@ -1,20 +1,19 @@
 // The program "broadcast report": N, N heads and then request records on standard input; what each is told on standard output.
 // Reading and writing stand here; what is done with the bytes is in the other files, each function with its promise.
-mod frame;
 mod serve;
-mod text;
 
 ghost use Prim.Native.Nat.{_+_, _-_, _≤_};
 ghost use lib.ListN.{length};
 ghost use Rattle.rules.specs.Layout.{mostCells};
-ghost use Rattle.report.specs.Framing.{countSize, headsEnd};
+ghost use Rattle.lines.specs.Framing.{countSize, headsEnd};
 ghost use Rattle.report.specs.Report.{answerRoom, tableSize, mostText};
 ghost use Rattle.report.specs.Running.{Standing};
-use frame::cells;
-use frame::frame;
-use frame::settle;
 use libc::STDIN_FILENO;
 use libc::STDOUT_FILENO;
+use lines::frame::cells;
+use lines::frame::frame;
+use lines::frame::settle;
+use lines::text::put_no;
 use rules::Answer;
 use rules::layout::ANSWER;
 use rules::layout::CELL;
@@ -25,7 +24,6 @@ use rules::layout::PLACES;
 use rules::layout::ROW;
 use serve::serve;
 use table::build::build;
-use text::put_no;
 
 // The bytes of N.
 const COUNT: usize = 2;

@@ -2,12 +2,12 @@
 ghost use mathlib.Core.Path.{_≡_};
 ghost use Prim.Native.Nat.{_+_, _≤_};
 ghost use lib.ListN.{length};
-ghost use Rattle.report.specs.Framing.{stopsAt};
+ghost use Rattle.lines.specs.Framing.{stopsAt};
 ghost use Rattle.report.specs.Report.{answerRoom, mostText, Turned};
 ghost use Rattle.rules.specs.Layout.{mostCells};
-use crate::text::put_answer;
-use crate::text::put_no;
 use engine::apply::apply;
+use lines::text::put_answer;
+use lines::text::put_no;
 use rules::Answer;
 
 // Where the text ends, and whether the program stops here.

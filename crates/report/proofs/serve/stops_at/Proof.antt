@@ -1,6 +1,6 @@
 -- `stops_at` tests whether a number is 1 to 4.
 use mathlib.Core.Path.{refl}
-use Rattle.report.specs.Framing.{stopsAt}
+use Rattle.lines.specs.Framing.{stopsAt}
 use Rattle.report.proofs.serve.stops_at.Statement.{statement}
 use Rattle.report.proofs.serve.stops_at.Tie as tie
 

@@ -1,0 +1,5 @@
+pub mod TextLaws
+pub mod LineLaws
+pub mod FrameLaws
+pub mod Framed
+pub mod Spelt
