@@ -1,0 +1,130 @@
+// The engine as a C++ team would write it by hand, to time the proved one against: in place on the bytes, with the same
+// tests for the same refusals. The surface is pws.h's with peer_ in front; document 01 is the law here as there.
+#include "peer/reach.hpp"
+#include "peer/record.hpp"
+#include "peer/steps.hpp"
+#include "peer/table.hpp"
+#include "pws.h"
+
+namespace {
+
+void happen(uint8_t *table, const uint8_t *record, size_t length, Rows &rows) {
+    const size_t cells = be16(table + 5);
+    const Reach reach = {record[7], reinterpret_cast<const Item *>(record + RECORD_HEADER), reinterpret_cast<const Item *>(record + length)};
+    switch (record[5]) {
+    case WRITE_REPLACE:
+        if (const Start start(record); !start.nothing()) {
+            each_reached(table, cells, reach, [&](uint8_t *cell) { start.in_cell(cell, rows); });
+        }
+        break;
+    case CANCEL:
+        if (record[6] & CANCEL_ALL) {
+            each_reached(table, cells, reach, [&](uint8_t *cell) { cancel_all_in_cell(cell, rows); });
+        } else {
+            const uint32_t text = raw<uint32_t>(record + 8);
+            each_reached(table, cells, reach, [&](uint8_t *cell) { cancel_in_cell(cell, text, rows); });
+        }
+        break;
+    case RESTART:
+        each_reached(table, cells, reach, [&](uint8_t *cell) {
+            free_all(cell);
+            rows.report(cell);
+        });
+        break;
+    case FAILURE:
+        each_reached(table, cells, reach, [&](uint8_t *cell) { cancel_all_in_cell(cell, rows); });
+        break;
+    case SECOND:
+        each_reached(table, cells, reach, [&](uint8_t *cell) { second_in_cell(cell, rows); });
+        break;
+    }
+}
+
+}
+
+extern "C" pws_done peer_apply(uint8_t *table, size_t table_length, const uint8_t *record, size_t record_length, uint8_t *answer,
+                               size_t answer_length) {
+    if (const uint32_t number = table_refusal(table, table_length)) {
+        return {number, 0};
+    }
+    if (const uint32_t number = record_refusal(record, record_length)) {
+        return {number, 0};
+    }
+    const size_t rows_per_cell = record[5] == SECOND ? PLACES : 1;
+    if (answer_length < ANSWER_HEADER + ROW * rows_per_cell * be16(table + 5)) {
+        return {8, 0};
+    }
+    Rows rows = {answer + ANSWER_HEADER};
+    happen(table, record, record_length, rows);
+    put_mark(answer, 'A');
+    answer[5] = record[5];
+    put_raw(answer + 6, raw<uint32_t>(record + 8));
+    put16(answer + 10, rows.count);
+    return {0, static_cast<size_t>(rows.next - answer)};
+}
+
+extern "C" pws_done peer_build(const uint8_t *heads, size_t heads_length, uint8_t *table, size_t table_length) {
+    const size_t cells = heads_length / HEAD;
+    if (heads_length % HEAD != 0 || cells < 1 || cells > MOST_CELLS) {
+        return {9, 0};
+    }
+    uint64_t next = 0;
+    for (const uint8_t *head = heads; head != heads + heads_length; head += HEAD) {
+        if (!head_legal(head, next)) {
+            return {9, 0};
+        }
+    }
+    const size_t length = TABLE_HEADER + CELL * cells;
+    if (table_length < length) {
+        return {8, 0};
+    }
+    put_mark(table, 'T');
+    put16(table + 5, cells);
+    table[7] = PLACES;
+    std::memset(table + 8, 0, 8);
+    for (size_t k = 0; k < cells; ++k) {
+        uint8_t *const cell = table + TABLE_HEADER + CELL * k;
+        std::memcpy(cell, heads + HEAD * k, HEAD);
+        free_all(cell);
+    }
+    return {0, length};
+}
+
+extern "C" pws_reading peer_read(const uint8_t *record, size_t record_length) {
+    if (const uint32_t number = record_refusal(record, record_length)) {
+        return {number, {}, 0};
+    }
+    return {0, fields(record), be16(record + 24)};
+}
+
+extern "C" pws_done peer_write(pws_request request, const uint64_t *items, size_t count, uint8_t *record, size_t record_length) {
+    if (count > MOST_ITEMS) {
+        return {4, 0};
+    }
+    if (const uint32_t number = field_refusal(request, count)) {
+        return {number, 0};
+    }
+    uint64_t any = 0;
+    for (size_t k = 0; k < count; ++k) {
+        any |= items[k];
+    }
+    if (const uint32_t number = value_refusal(request, any)) {
+        return {number, 0};
+    }
+    const size_t length = RECORD_HEADER + ITEM * count;
+    if (record_length < length) {
+        return {8, 0};
+    }
+    put_fields(record, request, count);
+    for (size_t k = 0; k < count; ++k) {
+        put64(record + RECORD_HEADER + ITEM * k, items[k]);
+    }
+    return {0, length};
+}
+
+extern "C" uint64_t peer_item(const uint8_t *record, size_t record_length, size_t k) {
+    if (record_length < RECORD_HEADER || k >= (record_length - RECORD_HEADER) / ITEM) {
+        return 0;
+    }
+    return be64(record + RECORD_HEADER + ITEM * k);
+}

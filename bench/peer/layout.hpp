@@ -1,0 +1,50 @@
+// Document 01's layouts: offsets, numbers in bytes, marks.
+#pragma once
+
+#include <cstddef>
+#include <cstdint>
+#include <cstring>
+
+namespace {
+
+constexpr size_t TABLE_HEADER = 16, HEAD = 24, PLACE = 20, PLACES = 4, CELL = HEAD + PLACES * PLACE, MOST_CELLS = 512;
+constexpr size_t RECORD_HEADER = 26, ITEM = 8, MOST_ITEMS = 512;
+constexpr size_t ANSWER_HEADER = 12, ROW = 14;
+constexpr size_t CODE = 8, USED = 11, AREAS = 12, AREA = 3, MOST_AREAS = 4;
+constexpr size_t CONTENT = 4, PERIOD = 8, REQUESTED = 10, SENT = 12, WAIT = 14, SIB = 16, LIVE = 17;
+constexpr uint32_t LARGEST_PERIOD = 4095;
+
+enum Kind : uint8_t { WRITE_REPLACE = 1, CANCEL, RESTART, FAILURE, SECOND };
+enum Flag : uint8_t { CONCURRENT = 1, CANCEL_ALL = 2, NOTIFICATION = 4 };
+enum Area : uint8_t { NO_AREA, CELLS, TRACKING_AREAS, EMERGENCY_AREAS };
+
+// Bytes as they lie, for what is only compared or moved: no need to turn them round.
+template <class Number> Number raw(const uint8_t *from) {
+    Number n;
+    std::memcpy(&n, from, sizeof n);
+    return n;
+}
+
+uint16_t be16(const uint8_t *from) { return __builtin_bswap16(raw<uint16_t>(from)); }
+uint32_t be32(const uint8_t *from) { return __builtin_bswap32(raw<uint32_t>(from)); }
+uint64_t be64(const uint8_t *from) { return __builtin_bswap64(raw<uint64_t>(from)); }
+
+// Every 24-bit number stands behind another byte of its head, so that one load of 32 bits has it.
+uint32_t be24(const uint8_t *from) { return be32(from - 1) & 0xffffff; }
+
+template <class Number> void put_raw(uint8_t *to, Number n) { std::memcpy(to, &n, sizeof n); }
+void put16(uint8_t *to, uint16_t n) { put_raw(to, __builtin_bswap16(n)); }
+void put32(uint8_t *to, uint32_t n) { put_raw(to, __builtin_bswap32(n)); }
+void put64(uint8_t *to, uint64_t n) { put_raw(to, __builtin_bswap64(n)); }
+
+bool has_mark(const uint8_t *bytes, char last) {
+    const char mark[] = {'P', 'W', last, 0, 1};
+    return std::memcmp(bytes, mark, sizeof mark) == 0;
+}
+
+void put_mark(uint8_t *bytes, char last) {
+    const char mark[] = {'P', 'W', last, 0, 1};
+    std::memcpy(bytes, mark, sizeof mark);
+}
+
+}

@@ -1,0 +1,132 @@
+// What happens in each reached cell, and the rows that tell of it.
+#pragma once
+
+#include "layout.hpp"
+
+#include <limits>
+
+namespace {
+
+// The rows of an answer, written one behind the other.
+struct Rows {
+    uint8_t *next;
+    uint16_t count = 0;
+
+    // Content as it lies in its place.
+    void put(const uint8_t *cell, uint16_t sent, uint32_t content) {
+        put_raw(next, raw<uint64_t>(cell));
+        put16(next + 8, sent);
+        put_raw(next + 10, content);
+        next += ROW;
+        ++count;
+    }
+
+    void report(const uint8_t *cell) { put(cell, 0, 0); }
+};
+
+// The live place with this text, else the first free one, else the end of the places.
+uint8_t *seek(uint8_t *cell, uint32_t text) {
+    uint8_t *place = cell + HEAD;
+    uint8_t *const end = cell + CELL;
+    while (place != end && place[LIVE] != 0 && raw<uint32_t>(place) != text) {
+        place += PLACE;
+    }
+    return place;
+}
+
+struct Start {
+    uint8_t place[PLACE] = {};
+    bool concurrent;
+
+    explicit Start(const uint8_t *record) : concurrent(record[6] & CONCURRENT) {
+        std::memcpy(place, record + 8, 8);
+        std::memcpy(place + PERIOD, record + 18, 2);
+        std::memcpy(place + REQUESTED, record + 20, 2);
+        place[SIB] = record[22];
+        place[LIVE] = 1;
+    }
+
+    // "a request starts nothing if requested is 0 without flag 1, or if period is 0 and requested is not 1"
+    bool nothing() const {
+        const uint16_t period = be16(place + PERIOD), requested = be16(place + REQUESTED);
+        return (requested == 0 && !concurrent) || (period == 0 && requested != 1);
+    }
+
+    void in_cell(uint8_t *cell, Rows &rows) const {
+        uint8_t *const found = seek(cell, raw<uint32_t>(place));
+        const bool full = found == cell + CELL;
+        if (full || found[LIVE] == 0) {
+            if (full && concurrent) {
+                return;
+            }
+            uint8_t *const to = concurrent ? found : cell + HEAD;
+            if (!concurrent) {
+                std::memset(cell + HEAD, 0, PLACES * PLACE);
+            }
+            std::memcpy(to, place, PLACE);
+        }
+        rows.report(cell);
+    }
+};
+
+void free_all(uint8_t *cell) {
+    std::memset(cell + HEAD, 0, PLACES * PLACE);
+}
+
+bool has_live(const uint8_t *cell) {
+    return cell[HEAD + LIVE] != 0;
+}
+
+void cancel_all_in_cell(uint8_t *cell, Rows &rows) {
+    if (has_live(cell)) {
+        free_all(cell);
+        rows.report(cell);
+    }
+}
+
+void cancel_in_cell(uint8_t *cell, uint32_t text, Rows &rows) {
+    uint8_t *place = seek(cell, text);
+    uint8_t *const last = cell + CELL - PLACE;
+    if (place > last || place[LIVE] == 0) {
+        return;
+    }
+    rows.put(cell, be16(place + SENT), 0);
+    for (; place != last; place += PLACE) {
+        std::memcpy(place, place + PLACE, PLACE);
+    }
+    std::memset(last, 0, PLACE);
+}
+
+// Whether the place goes on.
+bool broadcast(const uint8_t *cell, uint8_t *place, Rows &rows) {
+    const uint16_t before = be16(place + SENT);
+    const uint16_t sent = before + (before != std::numeric_limits<uint16_t>::max());
+    const uint16_t period = be16(place + PERIOD), requested = be16(place + REQUESTED);
+    put16(place + SENT, sent);
+    put16(place + WAIT, period - (period != 0));
+    rows.put(cell, sent, raw<uint32_t>(place + CONTENT));
+    return requested == 0 || sent != requested;
+}
+
+void second_in_cell(uint8_t *cell, Rows &rows) {
+    uint8_t *const end = cell + CELL;
+    uint8_t *to = cell + HEAD;
+    uint8_t *place = to;
+    for (; place != end && place[LIVE] != 0; place += PLACE) {
+        const uint16_t wait = be16(place + WAIT);
+        if (wait != 0) {
+            put16(place + WAIT, wait - 1);
+        } else if (!broadcast(cell, place, rows)) {
+            continue;
+        }
+        if (to != place) {
+            std::memcpy(to, place, PLACE);
+        }
+        to += PLACE;
+    }
+    for (; to != place; to += PLACE) {
+        std::memset(to, 0, PLACE);
+    }
+}
+
+}
