@@ -35,7 +35,8 @@ void happen(uint8_t *table, const uint8_t *record, size_t length, Rows &rows) {
         each_reached(table, cells, reach, [&](uint8_t *cell) { cancel_all_in_cell(cell, rows); });
         break;
     case SECOND:
-        each_reached(table, cells, reach, [&](uint8_t *cell) { second_in_cell(cell, rows); });
+        // A second has no area.
+        each_cell(table, cells, [&](uint8_t *cell) { second_in_cell(cell, rows); });
         break;
     }
 }

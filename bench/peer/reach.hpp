@@ -37,13 +37,23 @@ struct Reach {
     }
 };
 
-template <class Step> void each_reached(uint8_t *table, size_t cells, const Reach &reach, Step step) {
+template <class Step> void each_cell(uint8_t *table, size_t cells, Step step) {
     uint8_t *const end = table + TABLE_HEADER + CELL * cells;
     for (uint8_t *cell = table + TABLE_HEADER; cell != end; cell += CELL) {
-        if (reach.area == NO_AREA || reach.has(cell)) {
+        step(cell);
+    }
+}
+
+template <class Step> void each_reached(uint8_t *table, size_t cells, const Reach &reach, Step step) {
+    if (reach.area == NO_AREA) {
+        each_cell(table, cells, step);
+        return;
+    }
+    each_cell(table, cells, [&](uint8_t *cell) {
+        if (reach.has(cell)) {
             step(cell);
         }
-    }
+    });
 }
 
 }

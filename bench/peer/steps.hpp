@@ -34,6 +34,14 @@ uint8_t *seek(uint8_t *cell, uint32_t text) {
     return place;
 }
 
+void free_all(uint8_t *cell) {
+    std::memset(cell + HEAD, 0, PLACES * PLACE);
+}
+
+bool has_live(const uint8_t *cell) {
+    return cell[HEAD + LIVE] != 0;
+}
+
 struct Start {
     uint8_t place[PLACE] = {};
     bool concurrent;
@@ -56,26 +64,18 @@ struct Start {
         uint8_t *const found = seek(cell, raw<uint32_t>(place));
         const bool full = found == cell + CELL;
         if (full || found[LIVE] == 0) {
-            if (full && concurrent) {
-                return;
-            }
-            uint8_t *const to = concurrent ? found : cell + HEAD;
             if (!concurrent) {
-                std::memset(cell + HEAD, 0, PLACES * PLACE);
+                free_all(cell);
+                std::memcpy(cell + HEAD, place, PLACE);
+            } else if (full) {
+                return;
+            } else {
+                std::memcpy(found, place, PLACE);
             }
-            std::memcpy(to, place, PLACE);
         }
         rows.report(cell);
     }
 };
-
-void free_all(uint8_t *cell) {
-    std::memset(cell + HEAD, 0, PLACES * PLACE);
-}
-
-bool has_live(const uint8_t *cell) {
-    return cell[HEAD + LIVE] != 0;
-}
 
 void cancel_all_in_cell(uint8_t *cell, Rows &rows) {
     if (has_live(cell)) {
