@@ -1,0 +1,26 @@
+//! Nothing is timed before all three are seen to leave the same: on seeded inputs, the same that
+//! second's tests compare with, and on every workload.
+
+use crate::comparison::cases::Cases;
+use crate::comparison::compare::{Compare, Difference};
+use crate::given::random::Random;
+use crate::surface::{Surface, OURS, PEER, SECOND};
+use crate::workloads::Workload;
+
+const SEED: u64 = 1;
+const CALLS: u64 = 30_000;
+
+/// The calls compared, or the first difference.
+pub fn check(workloads: &[Workload]) -> Result<u64, Difference> {
+    Ok(pair(&PEER, workloads)? + pair(&SECOND, workloads)?)
+}
+
+fn pair(other: &Surface, workloads: &[Workload]) -> Result<u64, Difference> {
+    let compare = Compare::new([(OURS.name, &OURS), (other.name, other)]);
+    let mut cases = Cases { compare, random: Random::new(SEED) };
+    cases.run(CALLS)?;
+    for workload in workloads {
+        cases.compare.call(workload.call.clone())?;
+    }
+    Ok(cases.compare.calls)
+}

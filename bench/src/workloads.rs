@@ -1,0 +1,162 @@
+//! The workloads: each is one call, with its buffers as they are before it.
+
+use second::request::*;
+use second::{Answer, Broadcasts, Cell, Record, Request, Seconds, Table};
+
+use crate::comparison::call::Call;
+use crate::tables::{heads, identity, table, Due, IDENTIFIER, SERIAL};
+
+pub const MOST_CELLS: usize = 512;
+const SIZES: [usize; 3] = [1, 16, MOST_CELLS];
+const RECORD_SIZES: [usize; 3] = [0, 1, 512];
+const OTHER_SERIAL: u16 = 99;
+
+pub struct Workload {
+    pub name: &'static str,
+    /// Cells of the table; of a record that is read or written, its items.
+    pub size: usize,
+    pub call: Call,
+}
+
+fn request(kind: u8, flags: u8, serial: u16) -> Request {
+    Request { kind, flags, identifier: IDENTIFIER, serial, ..Request::default() }
+}
+
+pub fn bare(kind: u8) -> Record {
+    Record { request: Request { kind, ..Request::default() }, items: vec![] }
+}
+
+fn cancel(serial: u16) -> Record {
+    Record { request: request(CANCEL, NOTIFICATION, serial), items: vec![] }
+}
+
+pub fn cancel_in(area: u8, items: Vec<u64>) -> Record {
+    Record { request: Request { area, ..request(CANCEL, NOTIFICATION, SERIAL) }, items }
+}
+
+pub fn start(flags: u8, serial: u16) -> Record {
+    let terms = request(WRITE_REPLACE, flags, serial);
+    let (period, requested) = (Seconds(10), Broadcasts(100));
+    Record { request: Request { content: 7, period, requested, sib: 8, ..terms }, items: vec![] }
+}
+
+fn apply(table: Vec<u8>, record: &Record) -> Call {
+    let cells = (table.len() - Table::HEADER) / Cell::LENGTH;
+    let answer = vec![0xee; Answer::room(record.request.kind, cells)];
+    Call::Apply { table, record: record.encode(), answer }
+}
+
+/// 512 cells that are nobody's: the identities between those of the tables.
+fn strangers() -> Vec<u64> {
+    (0..Record::MOST_ITEMS as u64).map(|k| identity(k) + 1).collect()
+}
+
+/// 512 items, the table's own cells first.
+fn at_the_start(cells: usize) -> Vec<u64> {
+    let own = (0..cells as u64).map(identity);
+    own.chain(strangers()).take(Record::MOST_ITEMS).collect()
+}
+
+fn at_the_end(cells: usize) -> Vec<u64> {
+    at_the_start(cells).into_iter().rev().collect()
+}
+
+fn seconds(cells: usize) -> Vec<(&'static str, Call)> {
+    let second = bare(SECOND);
+    let full = |due| apply(table(cells, 4, due), &second);
+    vec![
+        ("second, no live place", apply(table(cells, 0, Due::Nothing), &second)),
+        ("second, four live, none due", full_second(cells)),
+        ("second, four live, all due", full(Due::All)),
+        ("second, a quarter freed", full(Due::AllAndOneEnds)),
+    ]
+}
+
+fn cancels(cells: usize) -> Vec<(&'static str, Call)> {
+    let on_full = |record| apply(table(cells, 4, Due::Nothing), &record);
+    let codes = (0..512).map(|code| identity(0) >> 36 << 24 | (0x8000 + code)).collect();
+    let areas = (0..512).map(|area| 0x800000 + area).collect();
+    vec![
+        ("cancel, matched everywhere", on_full(cancel(SERIAL))),
+        ("cancel, matched nowhere", on_full(cancel(OTHER_SERIAL))),
+        ("cancel by 512 cells, none matches", on_full(cancel_in(IN_CELLS, strangers()))),
+        ("cancel by 512 cells, all at the end", on_full(cancel_in(IN_CELLS, at_the_end(cells)))),
+        (
+            "cancel by 512 cells, all at the start",
+            on_full(cancel_in(IN_CELLS, at_the_start(cells))),
+        ),
+        ("cancel by 512 tracking areas, none", on_full(cancel_in(IN_TRACKING_AREAS, codes))),
+        ("cancel by 512 emergency areas, none", on_full(cancel_in(IN_EMERGENCY_AREAS, areas))),
+    ]
+}
+
+fn starts(cells: usize) -> Vec<(&'static str, Call)> {
+    let on = |live, record| apply(table(cells, live, Due::Nothing), &record);
+    vec![
+        ("start, replaces four", on(4, start(0, OTHER_SERIAL))),
+        ("start, concurrent into the third", on(2, start(CONCURRENT, OTHER_SERIAL))),
+        ("start, full cells", on(4, start(CONCURRENT, OTHER_SERIAL))),
+        ("start, repeat", on(4, start(CONCURRENT, SERIAL))),
+    ]
+}
+
+fn resets(cells: usize) -> Vec<(&'static str, Call)> {
+    let on_full = |kind| apply(table(cells, 4, Due::Nothing), &bare(kind));
+    vec![("restart", on_full(RESTART)), ("failure", on_full(FAILURE))]
+}
+
+/// A table wrong in its last byte alone; a record wrong in its last item alone.
+fn refusals(cells: usize) -> Vec<(&'static str, Call)> {
+    let whole = table(cells, 4, Due::Nothing);
+    let mut damaged = whole.clone();
+    *damaged.last_mut().expect("a table has bytes") = 1;
+    let mut items = strangers();
+    *items.last_mut().expect("512 items") = 1 << 60;
+    vec![
+        ("refusal 2, the table's last byte", apply(damaged, &bare(SECOND))),
+        ("refusal 6, the record's last item", apply(whole, &cancel_in(IN_CELLS, items))),
+    ]
+}
+
+fn build(cells: usize) -> Vec<(&'static str, Call)> {
+    let table = vec![0xee; Table::HEADER + Cell::LENGTH * cells];
+    vec![("build", Call::Build { heads: heads(cells), table })]
+}
+
+fn records(items: usize) -> Vec<(&'static str, Call)> {
+    let area = if items == 0 { NO_AREA } else { IN_CELLS };
+    let record = cancel_in(area, strangers().into_iter().take(items).collect());
+    let read = Call::Read { record: record.encode() };
+    let room = vec![0xee; Record::HEADER + Record::ITEM * items];
+    let write = Call::Write { request: record.request, items: record.items, record: room };
+    vec![("read a record", read), ("write a record", write)]
+}
+
+type Family = fn(usize) -> Vec<(&'static str, Call)>;
+
+fn family(of: Family, sizes: &[usize]) -> Vec<Workload> {
+    let at = |size: &usize| of(*size).into_iter().map(|(name, call)| (name, *size, call)).collect();
+    let by_size: Vec<Vec<(&'static str, usize, Call)>> = sizes.iter().map(at).collect();
+    let kinds = by_size[0].len();
+    let ordered =
+        (0..kinds).flat_map(|kind| by_size.iter().map(move |of_size| of_size[kind].clone()));
+    ordered.map(|(name, size, call)| Workload { name, size, call }).collect()
+}
+
+/// All of them, a workload's sizes together.
+pub fn all() -> Vec<Workload> {
+    let cells: [Family; 6] = [seconds, cancels, starts, resets, refusals, build];
+    let of_cells = cells.into_iter().flat_map(|of| family(of, &SIZES));
+    of_cells.chain(family(records, &RECORD_SIZES)).collect()
+}
+
+/// A second over so many full cells, none due.
+pub fn full_second(cells: usize) -> Call {
+    apply(table(cells, 4, Due::Nothing), &bare(SECOND))
+}
+
+/// A cancel by so many cells, of which none is among the table's 512.
+pub fn unmatched_cancel(items: usize) -> Call {
+    let listed = strangers().into_iter().take(items).collect();
+    apply(table(MOST_CELLS, 4, Due::Nothing), &cancel_in(IN_CELLS, listed))
+}
