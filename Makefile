@@ -1,4 +1,4 @@
-.PHONY: run test host-programs host-test install
+.PHONY: run test host-programs host-test install bench bench-quick bench-plot bench-program
 
 # One story, as a script and as what is reported of it, by the second implementation: make run SCRIPT=examples/one-yard.txt
 SCRIPT ?= examples/example.txt
@@ -43,6 +43,31 @@ install: target/staticlib/libpws.a
 
 target/staticlib/libpws.a: $(shell find crates -name '*.rt' -o -name '*.antt')
 	rt staticlib pws
+
+# Times against the C++ engine written by hand and against second/ (docs/SPEED.md). PWS_REPORT=/path adds the report program.
+bench: bench-program
+	SECOND_REPORT=$(CURDIR)/target/bench/release/report target/bench/release/bench
+
+# Only that all three agree; the times are a glance and not judged.
+bench-quick: bench-program
+	target/bench/release/bench --quick
+
+bench-plot: bench-program
+	target/bench/release/bench --growth target/bench
+	gnuplot bench/growth.gp
+
+bench-program: target/bench/libpeer.a target/staticlib/libpws.a
+	cargo build --quiet --offline --release --manifest-path second/Cargo.toml --target-dir target/bench
+	PWS_LIB_DIR=$(CURDIR)/target/staticlib PEER_LIB_DIR=$(CURDIR)/target/bench \
+	    cargo build --quiet --offline --release --manifest-path bench/Cargo.toml --target-dir target/bench
+
+# Its own object, so that no call is inlined into the bench program.
+target/bench/libpeer.a: $(wildcard bench/*.cpp bench/peer/*.hpp) host/include/pws.h
+	mkdir -p target/bench
+	$(CXX) -std=c++20 -O3 -Wall -Wextra -Werror -fno-exceptions -fno-rtti -Ihost/include -c bench/peer.cpp -o target/bench/peer.o
+	$(CXX) -std=c++20 -O3 -Wall -Wextra -Werror -fno-exceptions -fno-rtti -c bench/floor.cpp -o target/bench/floor.o
+	rm -f $@
+	ar rcs $@ target/bench/peer.o target/bench/floor.o
 
 # The gate.
 test:
