@@ -10,7 +10,8 @@ namespace {
 
 void happen(uint8_t *table, const uint8_t *record, size_t length, Rows &rows) {
     const size_t cells = be16(table + 5);
-    const Reach reach = {record[7], reinterpret_cast<const Item *>(record + RECORD_HEADER), reinterpret_cast<const Item *>(record + length)};
+    const auto item = [&](size_t at) { return reinterpret_cast<const Item *>(record + at); };
+    const Reach reach = {record[7], item(RECORD_HEADER), item(length)};
     switch (record[5]) {
     case WRITE_REPLACE:
         if (const Start start(record); !start.nothing()) {

@@ -21,7 +21,8 @@ bool zero_fields_zero(const pws_request &r) {
 uint32_t field_refusal(const pws_request &r, size_t items) {
     static constexpr struct {
         uint8_t flags, last_area;
-    } ALLOWED[] = {{0, 0}, {CONCURRENT, EMERGENCY_AREAS}, {CANCEL_ALL | NOTIFICATION, EMERGENCY_AREAS}, {0, CELLS}, {0, CELLS}, {0, NO_AREA}};
+    } ALLOWED[] = {{0, NO_AREA}, {CONCURRENT, EMERGENCY_AREAS}, {CANCEL_ALL | NOTIFICATION, EMERGENCY_AREAS},
+                   {0, CELLS},   {0, CELLS},                    {0, NO_AREA}};
     if (r.kind < WRITE_REPLACE || r.kind > SECOND) {
         return 5;
     }

@@ -32,12 +32,9 @@ pub fn print(long: Duration) {
         seconds.push(batch.time(&OURS));
     }
     let (read, second) = (Times::of(reads), Times::of(seconds));
-    println!(
-        "\nfloor: {} bytes read once in {:.0} ns (median {:.0}); a second over {MOST_CELLS} full cells, none due, takes {:.1} times that (median {:.1})",
-        table.len(),
-        read.best,
-        read.median,
-        second.best / read.best,
-        second.median / read.median,
-    );
+    let (length, ns, times) = (table.len(), read.best, second.best / read.best);
+    let (median_ns, median_times) = (read.median, second.median / read.median);
+    println!("\nfloor: {length} bytes read once in {ns:.0} ns (median {median_ns:.0})");
+    print!("a second over {MOST_CELLS} full cells, none due, takes {times:.1} times that ");
+    println!("(median {median_times:.1})");
 }

@@ -6,6 +6,7 @@
 //! bench --count WORKLOAD SIZE SURFACE    one call, for callgrind
 
 mod batch;
+// The comparison and its inputs are those of second's tests, which use all of them.
 #[allow(dead_code)]
 #[path = "../../second/tests/comparison/mod.rs"]
 mod comparison;
@@ -32,7 +33,7 @@ use std::time::Duration;
 
 use workloads::Workload;
 
-const LONG: Duration = Duration::from_millis(1500);
+const LONG: Duration = Duration::from_millis(1200);
 const GLANCE: Duration = Duration::from_millis(5);
 
 fn main() -> Result<(), Box<dyn Error>> {

@@ -72,7 +72,7 @@ fn print_line(measured: &Measured) {
     );
 }
 
-pub fn geometric_mean(ratios: impl Iterator<Item = f64> + Clone) -> f64 {
+fn geometric_mean(ratios: impl Iterator<Item = f64> + Clone) -> f64 {
     let count = ratios.clone().count() as f64;
     (ratios.map(f64::ln).sum::<f64>() / count).exp()
 }

@@ -15,7 +15,7 @@ use second::request::{CONCURRENT, IN_CELLS, SECOND};
 
 const BYTES: usize = 2_000_000;
 const CELLS: usize = 16;
-const ROUNDS: usize = 15;
+const ROUNDS: usize = 8;
 
 /// Four texts that run all the time, then seconds.
 fn seconds() -> Vec<u8> {
