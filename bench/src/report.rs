@@ -75,13 +75,15 @@ fn compare(name: &str, input: &Path, ours: &Path, second: &Path) -> io::Result<(
     Ok(())
 }
 
-/// Both inputs, with second's program from SECOND_REPORT.
+/// Both inputs, with our program from PWS_REPORT and second's from SECOND_REPORT.
 pub fn print(folder: &Path) -> io::Result<()> {
-    let programs = ["PWS_REPORT", "SECOND_REPORT"].map(|name| env::var_os(name).map(PathBuf::from));
-    let [Some(ours), Some(second)] = programs else {
-        println!("\nreport: SKIPPED, for PWS_REPORT and SECOND_REPORT do not both name a program");
+    let Some(ours) = env::var_os("PWS_REPORT").filter(|path| !path.is_empty()) else {
+        println!("\nreport: SKIPPED, for PWS_REPORT names no program");
         return Ok(());
     };
+    let second = env::var_os("SECOND_REPORT");
+    let second = second.ok_or_else(|| io::Error::other("SECOND_REPORT names no program"))?;
+    let (ours, second) = (PathBuf::from(ours), PathBuf::from(second));
     println!();
     for (name, bytes) in [("seconds", seconds()), ("starts and cancels", starts_and_cancels())] {
         let input = folder.join("report.in");
