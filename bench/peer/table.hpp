@@ -47,30 +47,6 @@ bool live_place_legal(const uint8_t *place) {
     return marked & timed & (sent <= static_cast<uint16_t>(requested - 1));
 }
 
-// So many places behind one another are free: a length that is known makes few wide reads of this.
-template <size_t COUNT> bool all_free(const uint8_t *places) {
-    uint32_t any = 0;
-    for (size_t k = 0; k < COUNT * PLACE; k += 4) {
-        any |= raw<uint32_t>(places + k);
-    }
-    return any == 0;
-}
-
-bool rest_free(const uint8_t *places, size_t live) {
-    switch (live) {
-    case 0:
-        return all_free<4>(places);
-    case 1:
-        return all_free<3>(places + PLACE);
-    case 2:
-        return all_free<2>(places + 2 * PLACE);
-    case 3:
-        return all_free<1>(places + 3 * PLACE);
-    default:
-        return true;
-    }
-}
-
 bool places_legal(const uint8_t *places) {
     size_t live = 0;
     for (; live < PLACES && places[PLACE * live + LIVE] != 0; ++live) {
@@ -84,7 +60,11 @@ bool places_legal(const uint8_t *places) {
             }
         }
     }
-    return rest_free(places, live);
+    uint64_t rest = 0;
+    for (const uint8_t *place = places + PLACE * live; place != places + PLACE * PLACES; place += PLACE) {
+        rest |= raw<uint64_t>(place) | raw<uint64_t>(place + 8) | raw<uint32_t>(place + 16);
+    }
+    return rest == 0;
 }
 
 // 0, 1 or 2.
