@@ -1,14 +1,23 @@
 .PHONY: run test host-programs host-test install bench bench-quick bench-plot bench-program
 
-# One story, as a script and as what is reported of it, by the second implementation: make run SCRIPT=examples/one-yard.txt
+# One story, the script beside what the program reports of it: make run SCRIPT=examples/one-yard.txt
 SCRIPT ?= examples/example.txt
 
-run: target/host/samples
-	target/host/samples
-	@cargo build --quiet --offline --manifest-path second/Cargo.toml --target-dir target/second
-	@grep -v '^#' $(SCRIPT)
-	@echo '--'
-	@target/second/debug/script < $(SCRIPT) | target/second/debug/report
+run: target/bin/report target/second/debug/script
+	@target/second/debug/script < $(SCRIPT) > target/input || { echo "$(SCRIPT) is not run"; exit 1; }
+	@target/bin/report < target/input > target/output
+	@awk -f examples/beside.awk target/output $(SCRIPT)
+
+target/second/debug/script: $(shell find second/src -name '*.rs') second/Cargo.toml
+	cargo build --quiet --offline --manifest-path second/Cargo.toml --target-dir target/second
+	@touch $@
+
+# What the proved parts are made of. Proving them all takes some minutes the first time.
+PROVED = crates.txt $(shell find crates -name '*.rt' -o -name '*.antt')
+
+target/bin/report: $(PROVED)
+	rt check report
+	@touch $@
 
 # The host's programs. The tests are built with sanitizers; libpws.a itself is not instrumented.
 HOST_TESTS = samples wrapper rules edges
@@ -41,8 +50,9 @@ install: target/staticlib/libpws.a
 	$(VERSIONED) host/pws-config-version.cmake.in | install -m 644 /dev/stdin "$(INTO)/lib/cmake/pws/pws-config-version.cmake"
 	$(VERSIONED) host/pws.pc.in | install -m 644 /dev/stdin "$(INTO)/lib/pkgconfig/pws.pc"
 
-target/staticlib/libpws.a: $(shell find crates -name '*.rt' -o -name '*.antt')
+target/staticlib/libpws.a: $(PROVED)
 	rt staticlib pws
+	@touch $@
 
 # Times against the C++ engine written by hand and against second/ (docs/SPEED.md). PWS_REPORT=/path adds the report program.
 bench: bench-program

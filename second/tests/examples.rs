@@ -1,5 +1,6 @@
 //! The examples, each a script beside what the program reports of it.
 
+use std::env;
 use std::fs;
 use std::path::{Path, PathBuf};
 use std::process::{Command, Stdio};
@@ -8,17 +9,20 @@ fn examples() -> PathBuf {
     Path::new(env!("CARGO_MANIFEST_DIR")).join("../examples")
 }
 
+/// The own report program and, where PWS_REPORT names it, the first implementation's.
+fn programs() -> Vec<String> {
+    let own = env!("CARGO_BIN_EXE_report").to_string();
+    [own].into_iter().chain(env::var("PWS_REPORT")).collect()
+}
+
 /// The outcome of `script < path | report`.
-fn reported(path: &Path) -> String {
+fn reported(path: &Path, program: &str) -> String {
     let mut script = Command::new(env!("CARGO_BIN_EXE_script"))
         .stdin(fs::File::open(path).unwrap())
         .stdout(Stdio::piped())
         .spawn()
         .unwrap();
-    let report = Command::new(env!("CARGO_BIN_EXE_report"))
-        .stdin(script.stdout.take().unwrap())
-        .output()
-        .unwrap();
+    let report = Command::new(program).stdin(script.stdout.take().unwrap()).output().unwrap();
     assert!(script.wait().unwrap().success() && report.status.success(), "{}", path.display());
     String::from_utf8(report.stdout).unwrap()
 }
@@ -30,7 +34,9 @@ fn each_example_is_reported_as_kept() {
         let path = entry.unwrap().path();
         if path.extension().is_some_and(|extension| extension == "txt") {
             let kept = fs::read_to_string(path.with_extension("out")).unwrap();
-            assert_eq!(reported(&path), kept, "{}", path.display());
+            for program in programs() {
+                assert_eq!(reported(&path, &program), kept, "{program}: {}", path.display());
+            }
             names.push(path.file_stem().unwrap().to_string_lossy().into_owned());
         }
     }

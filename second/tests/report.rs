@@ -7,6 +7,7 @@ use std::env;
 use std::io::{ErrorKind, Write};
 use std::process::{Command, Stdio};
 use std::thread;
+use std::time::Duration;
 
 use given::heads::{count, heads};
 use given::random::{say, seed, Random};
@@ -20,6 +21,11 @@ const INPUTS: usize = 40;
 
 /// What a program prints on standard output.
 fn printed(program: &str, input: &[u8]) -> String {
+    printed_of_pieces(program, input, input.len().max(1), Duration::ZERO)
+}
+
+/// The same, for an input that comes in pieces of a length, with a pause behind each.
+fn printed_of_pieces(program: &str, input: &[u8], length: usize, pause: Duration) -> String {
     let mut child = Command::new(program)
         .stdin(Stdio::piped())
         .stdout(Stdio::piped())
@@ -27,7 +33,12 @@ fn printed(program: &str, input: &[u8]) -> String {
         .unwrap_or_else(|error| panic!("{program}: {error}"));
     let mut stdin = child.stdin.take().expect("standard input is piped");
     let input = input.to_vec();
-    let writer = thread::spawn(move || stdin.write_all(&input));
+    let writer = thread::spawn(move || {
+        input.chunks(length).try_for_each(|piece| {
+            thread::sleep(pause);
+            stdin.write_all(piece)
+        })
+    });
     let output = child.wait_with_output().expect("the program ends");
     // A program that stops at a refusal need not read the rest.
     match writer.join().expect("writing does not panic") {
@@ -165,6 +176,22 @@ fn a_cut_prints_what_document_01_says() {
                 _ => format!("{before}no 4\n"),
             };
             assert_eq!(reported(&whole[..length]), expected, "cut {name}");
+        }
+    }
+}
+
+#[test]
+fn pieces_of_input_do_not_matter() {
+    let mut random = Random::new(seed("report, pieces"));
+    let (table, records) = accepted(&mut random);
+    let records: Vec<u8> = records.iter().flat_map(Record::encode).collect();
+    let input = [&table[..], &records].concat();
+    let input = &input[..input.len().min(4000)];
+    let pause = Duration::from_micros(20);
+    for program in [OWN.to_string()].into_iter().chain(env::var("PWS_REPORT")) {
+        for length in [1, 25, 26, 27, 1000] {
+            let printed = printed_of_pieces(&program, input, length, pause);
+            assert_eq!(printed, reported(input), "{program}, pieces of {length}");
         }
     }
 }
