@@ -7,8 +7,8 @@ ghost use lib.Seq.{sets};
 ghost use Rattle.octets.specs.Fields.{bytesOf};
 ghost use Rattle.rules.specs.Layout.{recordFields, recordMark, recordSize, recordVersion};
 ghost use Rattle.rules.specs.Record.{recordMarked};
-use octets::get16;
-use octets::get24;
+use octets::get8;
+use octets::get32;
 use octets::put16;
 use octets::put24;
 use rules::layout::RECORD;
@@ -18,14 +18,15 @@ use rules::layout::VERSION_AT;
 
 const MARK_AT: usize = 0;
 
-// Bytes long enough for a record, with its mark and version.
+// Bytes long enough for a record, with its mark and version, whose upper byte is zero and is read with the mark.
 pub fn marked(req: &[u8]) -> bool
     ensures { λ r. ⌜ r ≡ recordMarked (now (req .entry)) ⌝ }
 {
     if req.len() < RECORD {
         return false;
     }
-    (get24(req, MARK_AT) == RECORD_MARK) & (get16(req, VERSION_AT) == RECORD_VERSION)
+    (get32(req, MARK_AT) == RECORD_MARK * 256)
+        & (get8(req, VERSION_AT + 1) as u16 == RECORD_VERSION)
 }
 
 // Stores the fields 0 and 1 of the layout.

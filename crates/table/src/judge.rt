@@ -70,14 +70,14 @@ pub fn verdict(table: &[u8]) -> Verdict
     Verdict::Accepted
 }
 
-// Shorter than its mark and version, a table has neither.
+// Shorter than its mark and version, a table has neither. The version's upper byte is zero: it is read with the mark.
 fn marked(table: &[u8]) -> bool
     ensures { λ r. ⌜ r ≡ tableMarked (now (table .entry)) ⌝ }
 {
     if table.len() < CELLS_AT {
         return false;
     }
-    (get24(table, 0) == TABLE_MARK) & (get16(table, VERSION_AT) == TABLE_VERSION)
+    (get32(table, 0) == TABLE_MARK * 256) & (get8(table, VERSION_AT + 1) as u16 == TABLE_VERSION)
 }
 
 // The count of cells, the places per cell, the zeros and the exact length.
