@@ -16,7 +16,8 @@ same-length : tie.Need-same-length
 same-length c = search needs
 
 returns : tie.Need-returns
-returns c = cc (toLe-turned 2 (c .before .before .before .before .before .before .args .x) (omega arith))
+returns c =
+    rw (c .before .before .store16 .ensures, c .before .before .before .turn16 .ensures, toLe-turned 2 (c .before .before .before .before .before .before .args .x) (omega arith))
 
 pub put16-spec : {M : Type 1} → statement M
 put16-spec = tie.close (tie.spec turn16-requires store16-requires same-length returns)

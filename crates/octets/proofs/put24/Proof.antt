@@ -29,7 +29,8 @@ same-length c = search needs
 returns : tie.Need-returns
 returns c =
     let a = c .before .before .before .before .before .before .before .before .before .args in
-    cc (sets-toBe 2 1 (a .s .now) (a .at) (a .at + 2) (a .x) refl (omega arith))
+    rw (c .before .before .put8 .ensures, c .before .before .before .before .before .before .put16 .ensures)
+    (sets-toBe 2 1 (a .s .now) (a .at) (a .at + 2) (a .x) refl (omega arith))
 
 pub put24-spec : {M : Type 1} → statement M
 put24-spec =

@@ -16,7 +16,8 @@ same-length : tie.Need-same-length
 same-length c = search needs
 
 returns : tie.Need-returns
-returns c = cc (toLe-turned 4 (c .before .before .before .before .before .before .args .x) (omega arith))
+returns c =
+    rw (c .before .before .store32 .ensures, c .before .before .before .turn32 .ensures, toLe-turned 4 (c .before .before .before .before .before .before .args .x) (omega arith))
 
 pub put32-spec : {M : Type 1} → statement M
 put32-spec = tie.close (tie.spec turn32-requires store32-requires same-length returns)

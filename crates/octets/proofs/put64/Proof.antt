@@ -16,7 +16,8 @@ same-length : tie.Need-same-length
 same-length c = search needs
 
 returns : tie.Need-returns
-returns c = cc (toLe-turned 8 (c .before .before .before .before .before .before .args .x) (omega arith))
+returns c =
+    rw (c .before .before .store64 .ensures, c .before .before .before .turn64 .ensures, toLe-turned 8 (c .before .before .before .before .before .before .args .x) (omega arith))
 
 pub put64-spec : {M : Type 1} → statement M
 put64-spec = tie.close (tie.spec turn64-requires store64-requires same-length returns)

@@ -28,7 +28,8 @@ same-length c = search needs
 returns : tie.Need-returns
 returns c =
     let a = c .before .before .before .before .before .before .before .before .before .args in
-    cc (sets-toLe 2 2 (a .s .now) (a .at) (a .at + 2) (a .x) refl)
+    rw (c .before .before .store162 .ensures, c .before .before .before .before .before .before .store16 .ensures)
+    (sets-toLe 2 2 (a .s .now) (a .at) (a .at + 2) (a .x) refl)
 
 pub store32-spec : {M : Type 1} → statement M
 store32-spec =

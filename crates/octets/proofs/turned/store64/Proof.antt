@@ -28,7 +28,8 @@ same-length c = search needs
 returns : tie.Need-returns
 returns c =
     let a = c .before .before .before .before .before .before .before .before .before .args in
-    cc (sets-toLe 4 4 (a .s .now) (a .at) (a .at + 4) (a .x) refl)
+    rw (c .before .before .store322 .ensures, c .before .before .before .before .before .before .store32 .ensures)
+    (sets-toLe 4 4 (a .s .now) (a .at) (a .at + 4) (a .x) refl)
 
 pub store64-spec : {M : Type 1} → statement M
 store64-spec =
