@@ -14,7 +14,7 @@ cast-result c = search needs
 
 returns : tie.Need-returns
 unfolding offset
-returns c = cc (record-field _ (c .before .before .pre) 12)
+returns c = rw (c .get16 .ensures, record-field (c .before .before .args .req .now) (c .before .before .pre) 12)
 
 pub count-spec : {M : Type 1} → statement M
 count-spec = tie.close (tie.spec get16-requires cast-result returns)

@@ -39,7 +39,7 @@ unfolding requestOf offset
 returns c =
     let r = c .before .before .before .before .before .before .before .before .before .before .args .req .now in
     let f = record-field r (c .before .before .before .before .before .before .before .before .before .before .pre) in
-    cc (f 2, f 3, f 4, f 5, f 6, f 7, f 8, f 9, f 10)
+    rw (c .before .before .before .before .before .before .before .before .get8 .ensures, f 2, c .before .before .before .before .before .before .before .get82 .ensures, f 3, c .before .before .before .before .before .before .get83 .ensures, f 4, c .before .before .before .before .before .get16 .ensures, f 5, c .before .before .before .before .get162 .ensures, f 6, c .before .before .before .get32 .ensures, f 7, c .before .before .get322 .ensures, f 8, c .before .get163 .ensures, f 9, c .get84 .ensures, f 10)
 
 pub request-spec : {M : Type 1} → statement M
 request-spec =

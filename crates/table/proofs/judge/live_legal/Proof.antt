@@ -21,7 +21,10 @@ terms-legal-requires c κs = search needs
 
 returns : tie.Need-returns
 unfolding legalLive isLive
-returns c = let long = c .before .before .before .before .before .pre in cc (live-at _ long, filling-at _ long)
+returns c =
+    let b = c .before .before .before .before .before .args .place .now in
+    let long = c .before .before .before .before .before .pre in
+    rw (c .before .before .before .get8 .ensures, live-at b long, c .before .before .get16 .ensures, filling-at b long, c .terms-legal .ensures, c .before .place-of .ensures)
 
 pub live-legal-spec : {M : Type 1} → statement M
 live-legal-spec =

@@ -39,8 +39,9 @@ get8-requires c κs = search needs
 returns : tie.Need-returns
 unfolding placeOf
 returns c =
+    let b = c .before .before .before .before .before .before .before .before .before .args .place .now in
     let long = c .before .before .before .before .before .before .before .before .before .pre in
-    cc (identifier-at _ long, serial-at _ long, content-at _ long, period-at _ long, requested-at _ long, sent-at _ long, wait-at _ long, sib-at _ long)
+    rw (c .before .before .before .before .before .before .before .get16 .ensures, identifier-at b long, c .before .before .before .before .before .before .get162 .ensures, serial-at b long, c .before .before .before .before .before .get32 .ensures, content-at b long, c .before .before .before .before .get163 .ensures, period-at b long, c .before .before .before .get164 .ensures, requested-at b long, c .before .before .get165 .ensures, sent-at b long, c .before .get166 .ensures, wait-at b long, c .get8 .ensures, sib-at b long)
 
 pub place-of-spec : {M : Type 1} → statement M
 place-of-spec =

@@ -10,7 +10,7 @@ wait-end-requires c κs = search needs
 
 returns : tie.Need-returns
 unfolding legalPlace
-returns c = cc
+returns c = rw (c .before .before .before .before .before .before .wait-end .ensures)
 
 pub terms-legal-spec : {M : Type 1} → statement M
 terms-legal-spec = tie.close (tie.spec wait-end-requires returns)
