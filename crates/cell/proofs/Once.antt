@@ -6,20 +6,15 @@ use Prim.Native.Nat.{ℕ}
 use lib.Dec.{ltb}
 use lib.ListN.{length}
 use Rattle.octets.proofs.Once.{one-outcome}
-use Rattle.rules.specs.declared.Place.{Place}
-use Rattle.cell.specs.Places.{livePlaces, withPlaces, placeAt, indexOf, HeadAreas}
+use Rattle.cell.specs.Places.{livePlaces, placeAt, indexOf, HeadAreas}
 use Rattle.cell.specs.declared.read.Terms.{Terms}
 use Rattle.cell.specs.declared.read.Counts.{Counts}
 use Rattle.cell.specs.declared.read.Sought.{Sought}
 use Rattle.cell.specs.declared.read.Areas.{Areas}
 
--- `is_live`, `text`, `content`, `sent`, `wait`, `place`, `Areas::has`, `identity`, `tracking` and `place_bytes` return x
+-- `is_live`, `text`, `content`, `sent`, `wait`, `place`, `Areas::has`, `identity` and `tracking` return x
 pub returned-once : {A : Type 0} (x : A) {r s : A} → r ≡ x → s ≡ x → r ≡ s
 returned-once x = one-outcome
-
--- `set_counts`, `set_wait`, `drop_place`, `free_all` and `add_place` leave the cell with the places ps
-pub left-once : (c : List ℕ) (ps : List Place) {a b : List ℕ} → a ≡ withPlaces c ps → b ≡ withPlaces c ps → a ≡ b
-left-once c ps = one-outcome
 
 pub terms-once : (c : List ℕ) (k : ℕ) (r s : Terms) → (r .period ≡ placeAt c k .period) × (r .requested ≡ placeAt c k .requested)
     → (s .period ≡ placeAt c k .period) × (s .requested ≡ placeAt c k .requested) → r ≡ s

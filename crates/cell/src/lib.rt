@@ -1,4 +1,3 @@
-// A cell of a table in its lent bytes. What is read of it is `read`, what is written to it `change`; both speak of the list of live
-// places and of a place's number, so that a layout's offsets stay in here.
-pub mod change;
+// A cell of a table in its lent bytes, read. What is said of it is the list of its live places and a place's number, so that a
+// layout's offsets stay in here and in `places`, which changes it.
 pub mod read;

@@ -1,10 +1,10 @@
 // Cancel, Restart and Failure in one cell.
 use crate::rows::report;
-use cell::change::drop_place;
-use cell::change::free_all;
 use cell::read::is_live;
 use cell::read::seek;
 use cell::read::sent;
+use places::drop_place;
+use places::free_all;
 use rules::Broadcasts;
 use rules::Request;
 use rules::kind::CANCEL_ALL;

@@ -1,9 +1,6 @@
 // One second in a cell, in place. A first pass changes every live place where it stands and counts those that have ended; only if there
 // are any does a second pass close up. No legal place has ended before the second, so the second pass can ask each place again.
 use crate::rows::put_row;
-use cell::change::drop_place;
-use cell::change::set_counts;
-use cell::change::set_wait;
 use cell::read::Counts;
 use cell::read::content;
 use cell::read::identity;
@@ -11,6 +8,9 @@ use cell::read::is_live;
 use cell::read::sent;
 use cell::read::terms_of;
 use cell::read::wait;
+use places::drop_place;
+use places::set_counts;
+use places::set_wait;
 use rules::Broadcasts;
 use rules::Seconds;
 use rules::layout::MOST_SENT;

@@ -1,8 +1,8 @@
 // Write-Replace in one cell.
 use crate::rows::report;
-use cell::change::add_place;
-use cell::change::free_all;
 use cell::read::seek;
+use places::add_place;
+use places::free_all;
 use rules::Broadcasts;
 use rules::Request;
 use rules::layout::PLACES;
