@@ -2,3 +2,4 @@ pub mod Runs
 pub mod Numbers
 pub mod Fields
 pub mod Turned
+pub mod Joined

@@ -11,11 +11,13 @@ use turned::turn16;
 use turned::turn32;
 use turned::turn64;
 ghost use mathlib.Core.Path.{_≡_};
-ghost use Prim.Native.Nat.{_+_, _<_, _≤_};
-ghost use lib.ListN.{length};
+ghost use mathlib.Core.List.{map};
+ghost use Prim.Native.Nat.{_+_, _*_, _<_, _≤_};
+ghost use lib.ListN.{length, drop};
 ghost use lib.Seq.{sets};
-ghost use Rattle.octets.specs.Runs.{gets};
+ghost use Rattle.octets.specs.Runs.{gets, pieces};
 ghost use Rattle.octets.specs.Numbers.{be, toBe};
+ghost use Rattle.octets.specs.Joined.{joined};
 
 // Reads: the number that the bytes at an index say.
 pub fn get8(s: &[u8], at: usize) -> u8
@@ -51,6 +53,22 @@ pub fn get64(s: &[u8], at: usize) -> u64
     ensures { λ r. ⌜ r ≡ be (gets (now (s .entry)) at 8) ⌝ }
 {
     turn64(load64(s, at))
+}
+
+// Every bit that is set in any of the n numbers of 64 bits back to back from an index on. They are joined as they are loaded and turned once.
+pub fn any64(s: &[u8], at: usize, n: usize) -> u64
+    requires { ⌜ at + 8 * n ≤ length (now s) ⌝ }
+    ensures { λ r. ⌜ r ≡ joined 0 (map be (pieces 8 n (drop at (now (s .entry))))) ⌝ }
+{
+    let mut any: u64 = 0;
+    let mut from = at;
+    let mut left = n;
+    while 0 < left {
+        any = any | load64(s, from);
+        from += 8;
+        left -= 1;
+    }
+    turn64(any)
 }
 
 // Writes: the bytes of a number at an index; every other byte stays.

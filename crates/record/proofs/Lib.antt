@@ -1,5 +1,6 @@
 mod JudgeLaws
 mod ReadLaws
+mod SmallLaws
 mod WriteLaws
 pub mod Items
 pub mod Trips

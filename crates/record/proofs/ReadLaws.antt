@@ -2,16 +2,14 @@
 -- By the law of fields, by one item at a time, and by the tests that decide.
 use mathlib.Core.Path.{_≡_, sym, _∙_}
 use mathlib.Core.Bool.{Bool, true, false, not, _&&_}
-use mathlib.Core.List.{List, map}
-use Prim.Native.Nat.{ℕ, _+_, _*_, _-_, _≤_, _<_}
-use lib.Dec.{eqb, ltb, leb}
-use lib.ListN.{length, drop, getD}
-use borrow.Author.Tests.{leb-true, le-leb, lt-leb, lt-ltb, le-ltb, eq-eqb, ne-eqb, not-true, not-false}
-use Rattle.octets.specs.Runs.{gets, pieces}
+use mathlib.Core.List.{List}
+use Prim.Native.Nat.{ℕ, _+_, _*_, _≤_, _<_}
+use lib.Dec.{eqb, leb}
+use lib.ListN.{length, getD}
+use borrow.Author.Tests.{leb-true, le-leb, lt-leb, eq-eqb, ne-eqb, not-true, not-false}
+use Rattle.octets.specs.Runs.{gets}
 use Rattle.octets.specs.Numbers.{be}
 use Rattle.octets.specs.Fields.{offset}
-use Rattle.octets.proofs.PiecesLaws.{pieces-next, pieces-none}
-use Rattle.rules.specs.Lists.{every}
 use Rattle.rules.specs.Layout.{field, recordFields, recordSize, itemSize, recordMark, recordVersion, mostItems}
 use Rattle.rules.specs.Record.{requestOf, itemsOf, itemCount, zeroByte, recordMarked}
 use Rattle.rules.specs.Refusals.{requestVerdict, recordVerdict}
@@ -31,27 +29,6 @@ use Rattle.rules.proofs.RecordTrips.{record-accepted}
 
 pub record-field : (r : List ℕ) → recordSize ≤ length r → (k : ℕ) → field recordFields k r ≡ be (gets r (offset recordFields k) (getD recordFields k 0))
 record-field r h = field-at recordFields r (rw record-size h)
-
--- ---- items
-
--- the items still to come: each below the end
-module _ (end : ℕ) (l : List ℕ) (at left : ℕ) where
-  small-next : 0 < left → at + itemSize ≤ length l → {x : ℕ} → x ≡ be (gets l at itemSize)
-      → every (λ y. ltb y end) (map be (pieces itemSize left (drop at l))) ≡ ltb x end && every (λ y. ltb y end) (map be (pieces itemSize (left - 1) (drop (at + itemSize) l)))
-  unfolding every
-  small-next h fits e = rw (pieces-next itemSize left l at h fits, e)
-
-  pub item-large : 0 < left → at + itemSize ≤ length l → {x : ℕ} → x ≡ be (gets l at itemSize) → end ≤ x
-      → every (λ y. ltb y end) (map be (pieces itemSize left (drop at l))) ≡ false
-  item-large h fits {x} e t = small-next h fits e ∙ rw (le-ltb x end t)
-
-  pub item-small : 0 < left → at + itemSize ≤ length l → {x : ℕ} → x ≡ be (gets l at itemSize) → x < end
-      → every (λ y. ltb y end) (map be (pieces itemSize left (drop at l))) ≡ every (λ y. ltb y end) (map be (pieces itemSize (left - 1) (drop (at + itemSize) l)))
-  item-small h fits {x} e t = small-next h fits e ∙ rw (lt-ltb x end t)
-
-  pub no-item : left ≤ 0 → every (λ y. ltb y end) (map be (pieces itemSize left (drop at l))) ≡ true
-  unfolding every
-  no-item h = rw (pieces-none itemSize left (drop at l) h)
 
 -- ---- 3 to 7 in their order
 

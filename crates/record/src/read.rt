@@ -14,6 +14,7 @@ ghost use Rattle.rules.specs.Refusals.{recordVerdict};
 use crate::judge::item_end;
 use crate::judge::judged;
 use crate::mark::marked;
+use octets::any64;
 use octets::get8;
 use octets::get16;
 use octets::get32;
@@ -65,22 +66,12 @@ pub fn count(req: &[u8]) -> usize
     get16(req, COUNT_AT) as usize
 }
 
-// Whether each of the first n items is small enough for its area.
+// Whether each of the first n items is small enough for its area. Its end is a power of 2, so all of them are where all their bits are.
 fn items_small(req: &[u8], n: usize, area: u8) -> bool
     requires { ⌜ recordSize + itemSize * n ≤ length (now req) ⌝ }
     ensures { λ r. ⌜ r ≡ every (λ x. ltb x (itemEnd area)) (map be (pieces itemSize n (drop recordSize (now (req .entry))))) ⌝ }
 {
-    let end = item_end(area);
-    let mut at = RECORD;
-    let mut left = n;
-    while 0 < left {
-        if end <= get64(req, at) {
-            return false;
-        }
-        at += ITEM;
-        left -= 1;
-    }
-    true
+    any64(req, RECORD, n) < item_end(area)
 }
 
 // The first of the refusals 3 to 7 that applies to any bytes.

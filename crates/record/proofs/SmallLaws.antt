@@ -1,0 +1,58 @@
+-- Items are judged all at once: joined, they are below their area's end exactly where each of them is, because every such end is a power of 2.
+-- One item at a time, by whether it is below; and then by the area.
+use mathlib.Core.Path.{_≡_, refl, _∙_}
+use mathlib.Core.Bool.{Bool, true, false, cond, _&&_}
+use mathlib.Core.List.{List, [], _∷_}
+use Prim.Native.Nat.{ℕ, _+_, _^_, _<_, _≤_}
+use native.Mathlib.Numerals.{add-one}
+use native.Mathlib.Omega.{arith}
+use lib.Bits.{bitOr, or-lt}
+use lib.Dec.{eqb, ltb}
+use lib.ListN.{length, drop, getD, drop-of-length-le}
+use lib.Seq.{drop-cons}
+use borrow.Author.Tests.{ltb-true, ltb-false, lt-ltb, le-ltb}
+use Rattle.octets.specs.Joined.{joined}
+use Rattle.octets.proofs.JoinedLaws.{or-le-left, or-le-right}
+use Rattle.rules.specs.Lists.{every}
+use Rattle.rules.specs.Layout.{cellEnd, trackingEnd, emergencyEnd}
+use Rattle.rules.specs.Record.{cellArea, trackingArea, itemEnd}
+
+two-small : (k a x : ℕ) → ltb (bitOr a x) (2 ^ k) ≡ ltb a (2 ^ k) && ltb x (2 ^ k)
+two-small k a x = go (ltb a (2 ^ k)) (ltb x (2 ^ k)) refl refl
+  where
+    go : (p q : Bool) → ltb a (2 ^ k) ≡ p → ltb x (2 ^ k) ≡ q → ltb (bitOr a x) (2 ^ k) ≡ p && q
+    go true true e f = lt-ltb (bitOr a x) (2 ^ k) (or-lt k a x (ltb-true a (2 ^ k) e) (ltb-true x (2 ^ k) f))
+    go true false e f = le-ltb (bitOr a x) (2 ^ k) (omega (arith, or-le-right a x, ltb-false x (2 ^ k) f))
+    go false q e f = le-ltb (bitOr a x) (2 ^ k) (omega (arith, or-le-left a x, ltb-false a (2 ^ k) e))
+
+and-assoc : (a b c : Bool) → (a && b) && c ≡ a && (b && c)
+and-assoc true b c = refl
+and-assoc false b c = refl
+
+and-end : (a : Bool) → a ≡ a && true
+and-end true = refl
+and-end false = refl
+
+joined-small : (k a : ℕ) (xs : List ℕ) → ltb (joined a xs) (2 ^ k) ≡ ltb a (2 ^ k) && every (λ x. ltb x (2 ^ k)) xs
+unfolding joined every
+joined-small k a [] = and-end (ltb a (2 ^ k))
+joined-small k a (x ∷ xs) =
+    joined-small k (bitOr a x) xs ∙ rw (two-small k a x) (and-assoc (ltb a (2 ^ k)) (ltb x (2 ^ k)) (every (λ y. ltb y (2 ^ k)) xs))
+
+pub all-small : (area : ℕ) (xs : List ℕ) → ltb (joined 0 xs) (itemEnd area) ≡ every (λ x. ltb x (itemEnd area)) xs
+all-small area xs = go (eqb area cellArea) (eqb area trackingArea)
+  where
+    go : (p q : Bool) → ltb (joined 0 xs) (cond p cellEnd (cond q trackingEnd emergencyEnd)) ≡ every (λ x. ltb x (cond p cellEnd (cond q trackingEnd emergencyEnd))) xs
+    go true q = joined-small 60 0 xs
+    go false true = joined-small 48 0 xs
+    go false false = joined-small 24 0 xs
+
+-- ---- met one by one
+
+pub joined-more : (a : ℕ) (xs : List ℕ) (k : ℕ) → k < length xs → joined a (drop k xs) ≡ joined (bitOr a (getD xs k 0)) (drop (k + 1) xs)
+unfolding joined
+joined-more a xs k h = rw (drop-cons xs k 0 h, add-one)
+
+pub joined-all : (a : ℕ) (xs : List ℕ) (k : ℕ) → length xs ≤ k → joined a (drop k xs) ≡ a
+unfolding joined
+joined-all a xs k h = rw (drop-of-length-le xs h)
