@@ -1,20 +1,17 @@
 -- What the writer stores is the record of the rules: field behind field, item behind item, and the tests 4 to 8 in their order.
 -- A store behind a store is one store of both (`sets-run`), so a chain of them stores what the layout gives.
 use mathlib.Core.Path.{_≡_, refl, sym, _∙_}
-use mathlib.Core.Bool.{true, false, _&&_}
 use mathlib.Core.List.{List, [], _∷_, flatMap}
 use Prim.Native.Nat.{ℕ, suc, _+_, _*_, _<_, _≤_}
 use native.Mathlib.Numerals.{add-one}
 use native.Mathlib.Omega.{arith}
-use lib.Dec.{ltb}
 use lib.ListN.{length, drop, getD, length-append, drop-of-length-le}
 use lib.Seq.{sets, drop-cons}
-use borrow.Author.Tests.{lt-ltb, le-ltb, le-leb, lt-leb}
+use borrow.Author.Tests.{le-leb, lt-leb}
 use Rattle.octets.specs.Numbers.{toBe}
 use Rattle.octets.specs.Fields.{bytesOf, offset}
 use Rattle.octets.proofs.RunsLaws.{sets-run, length-flatMap}
 use Rattle.octets.proofs.NumbersLaws.{length-toBe}
-use Rattle.rules.specs.Lists.{every}
 use Rattle.rules.specs.Layout.{recordFields, recordSize, itemSize, recordMark, recordVersion, mostItems}
 use Rattle.rules.specs.Record.{requestNumbers, recordBytes}
 use Rattle.rules.specs.Refusals.{requestVerdict, writeVerdict}
@@ -29,24 +26,6 @@ use Rattle.rules.proofs.LayoutLaws.{record-size}
 use Rattle.rules.proofs.FitLaws.{length-written}
 use Rattle.rules.proofs.RecordTrips.{AcceptedWriting, writing-accepted}
 
--- ---- items that are judged
-
--- those still to come: each below the end
-module _ (end : ℕ) (items : List ℕ) (k : ℕ) where
-  small-next : k < length items → every (λ x. ltb x end) (drop k items) ≡ ltb (getD items k 0) end && every (λ x. ltb x end) (drop (k + 1) items)
-  unfolding every
-  small-next h = rw (drop-cons items k 0 h, add-one)
-
-  pub next-large : k < length items → end ≤ getD items k 0 → every (λ x. ltb x end) (drop k items) ≡ false
-  next-large h t = small-next h ∙ rw (le-ltb (getD items k 0) end t)
-
-  pub next-small : k < length items → getD items k 0 < end → every (λ x. ltb x end) (drop k items) ≡ every (λ x. ltb x end) (drop (k + 1) items)
-  next-small h t = small-next h ∙ rw (lt-ltb (getD items k 0) end t)
-
-  pub all-met : length items ≤ k → every (λ x. ltb x end) (drop k items) ≡ true
-  unfolding every
-  all-met h = rw (drop-of-length-le items h)
-
 -- ---- items that are stored
 
 module _ (w : ℕ) (b : List ℕ) (i : ℕ) (xs : List ℕ) (k : ℕ) where
@@ -60,6 +39,18 @@ module _ (w : ℕ) (b : List ℕ) (i : ℕ) (xs : List ℕ) (k : ℕ) where
   pub all-put : length xs ≤ k → sets b i (flatMap (toBe w) (drop k xs)) ≡ b
   unfolding flatMap
   all-put h = rw (drop-of-length-le xs h)
+
+module _ (w : ℕ) (b : List ℕ) (i : ℕ) (xs : List ℕ) (k : ℕ) {c : List ℕ} (p : c ≡ sets b i (toBe w (getD xs k 0))) where
+  -- two of them in a turn
+  pub put-two : {d : List ℕ} {j m : ℕ} → d ≡ sets c (i + w) (toBe w (getD xs (k + 1) 0)) → k + 1 < length xs → j ≡ i + w + w → m ≡ k + 1 + 1
+      → sets b i (flatMap (toBe w) (drop k xs)) ≡ sets d j (flatMap (toBe w) (drop m xs))
+  put-two q h e f =
+      put-next w b i xs k (omega arith)
+      ∙ rw (e, f, q, p) (put-next w (sets b i (toBe w (getD xs k 0))) (i + w) xs (k + 1) h)
+
+  -- the last one, where one is left
+  pub put-last : k < length xs → length xs ≤ k + 1 → sets b i (flatMap (toBe w) (drop k xs)) ≡ c
+  put-last h e = put-next w b i xs k h ∙ rw p (all-put w (sets b i (toBe w (getD xs k 0))) (i + w) xs (k + 1) e)
 
 -- ---- fields that are stored
 

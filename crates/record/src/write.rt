@@ -6,6 +6,7 @@ ghost use lib.Dec.{ltb};
 ghost use lib.ListN.{length, drop};
 ghost use lib.Seq.{sets};
 ghost use Rattle.octets.specs.Fields.{bytesOf, offset};
+ghost use Rattle.octets.specs.Joined.{joined};
 ghost use Rattle.octets.specs.Numbers.{toBe};
 ghost use Rattle.rules.specs.Applied.{filledBy, written};
 ghost use Rattle.rules.specs.Layout.{itemSize, recordFields, recordSize};
@@ -38,19 +39,24 @@ use rules::layout::RECORD_SIB_AT;
 use rules::layout::SERIAL_AT;
 use rules::layout::ZERO_AT;
 
-// Whether each item is small enough for its area.
+// Every bit that is set in any item.
+fn any_item(items: &[u64]) -> u64
+    ensures { λ r. ⌜ r ≡ joined 0 (now (items .entry)) ⌝ }
+{
+    let mut any: u64 = 0;
+    let mut k = 0;
+    while k < items.len() {
+        any = any | items[k];
+        k += 1;
+    }
+    any
+}
+
+// Whether each item is small enough for its area. Its end is a power of 2, so all of them are where all their bits are.
 fn items_small(items: &[u64], area: u8) -> bool
     ensures { λ r. ⌜ r ≡ every (λ x. ltb x (itemEnd area)) (now (items .entry)) ⌝ }
 {
-    let end = item_end(area);
-    let mut k = 0;
-    while k < items.len() {
-        if end <= items[k] {
-            return false;
-        }
-        k += 1;
-    }
-    true
+    any_item(items) < item_end(area)
 }
 
 // The first of the refusals 4 (n only), 5, 6, 7 and 8 that applies.
@@ -117,18 +123,23 @@ fn put_fields(buffer: &mut [u8], request: Request, n: u16)
     put_counts(buffer, request, n);
 }
 
-// Every item behind the fields.
+// Every item behind the fields. Two in a turn: of single ones the compiler makes vectors, whose bytes cost more to turn.
 fn put_items(buffer: &mut [u8], items: &[u64])
     requires { ⌜ recordSize + itemSize * length (now items) ≤ length (now buffer) ⌝ }
     ensures { λ _. ⌜ now (buffer .exit) ≡ sets (now (buffer .entry)) recordSize (flatMap (toBe itemSize) (now (items .entry))) ⌝ }
 {
     let mut at = RECORD;
     let mut k = 0;
-    while k < items.len() {
+    while k + 1 < items.len() {
         put64(buffer, at, items[k]);
-        at += ITEM;
-        k += 1;
+        put64(buffer, at + ITEM, items[k + 1]);
+        at += 2 * ITEM;
+        k += 2;
     }
+    if items.len() <= k {
+        return;
+    }
+    put64(buffer, at, items[k]);
 }
 
 // The record of a request and its items at the start of the buffer; bytes behind it stay. A refusal writes nothing.
