@@ -7,11 +7,11 @@ use native.Mathlib.Omega.{arith}
 use borrow.Rule.Slice.PartMut.{midOf, putMid}
 use lib.ListN.{length, take, drop, replicate, length-append, length-drop, drop-of-length-le}
 use lib.Seq.{sets, sets-eq, length-sets, length-take-le, take-all, take-at, drop-drop}
-use Rattle.octets.specs.Runs.{pieces}
-use Rattle.octets.specs.Numbers.{toBe}
+use Rattle.octets.specs.Runs.{gets, pieces, Bytes}
+use Rattle.octets.specs.Numbers.{be, toBe}
 use Rattle.octets.specs.Fields.{bytesOf}
-use Rattle.octets.proofs.RunsLaws.{sets-run, sets-front}
-use Rattle.octets.proofs.NumbersLaws.{length-toBe}
+use Rattle.octets.proofs.RunsLaws.{gets-eq, gets-run, length-gets, sets-run, sets-front}
+use Rattle.octets.proofs.NumbersLaws.{length-toBe, toBe-gets}
 use Rattle.rules.specs.Layout.{placesPerCell, headerSize, headSize, cellSize, tableMark, tableVersion}
 use Rattle.rules.specs.Table.{headerBytes}
 use Rattle.table.specs.Build.{emptyRun}
@@ -29,6 +29,15 @@ header-stored n t p q r s u =
     rw (u, s, r, q, p, then-store 1 placesPerCell _ (toBe 8 0) 7 8 refl, then-store 2 n _ _ 5 7 refl, then-store 2 tableVersion _ _ 3 5 refl, then-store 3 tableMark t _ 0 3 refl, append-nil)
 
 -- ---- a cell
+
+-- a head that is stored in three parts is stored whole
+pub head-stored : (cell head : List ℕ) → Bytes head → length head ≡ headSize → {x y z : ℕ} → x ≡ be (gets head 0 8) → y ≡ be (gets head 8 8) → z ≡ be (gets head 16 8)
+    → {a b c : List ℕ} → a ≡ sets cell 0 (toBe 8 x) → b ≡ sets a 8 (toBe 8 y) → c ≡ sets b 16 (toBe 8 z) → c ≡ sets cell 0 head
+head-stored cell head bytes long x y z p q r =
+    let whole : gets head 0 24 ≡ head = gets-eq 24 head 0 (omega arith) ∙ take-all 24 head (omega arith) in
+    rw (r, q, p, x, y, z, toBe-gets 8 head 0 bytes, toBe-gets 8 head 8 bytes, toBe-gets 8 head 16 bytes)
+    (rw (sets-run (gets head 0 8) (gets head 8 8) cell 0 8 (rw length-gets), gets-run 8 head 0 8 8 refl)
+    (sets-run (gets head 0 16) (gets head 16 8) cell 0 16 (rw length-gets) ∙ rw (gets-run 16 head 0 16 8 refl, whole)))
 
 -- the front copied, and what is behind it cleared: a the list after the copy, z what was lent after the clearing
 front-stored : (w : ℕ) (l front a z : List ℕ) → length front ≡ w → w ≤ length l → a ≡ sets l 0 front → z ≡ replicate (length (midOf w (length a - w) a)) 0

@@ -12,7 +12,6 @@ ghost use Rattle.rules.specs.Applied.{filledBy, built};
 ghost use Rattle.table.specs.Judge.{legalRuns};
 ghost use Rattle.table.specs.Build.{emptyRun};
 use crate::judge::head_legal;
-use octets::copy;
 use octets::get64;
 use octets::put8;
 use octets::put16;
@@ -31,6 +30,9 @@ use rules::layout::TABLE_MARK;
 use rules::layout::TABLE_VERSION;
 use rules::layout::VERSION_AT;
 use rules::layout::ZEROS_AT;
+
+// What one `get64` reads: a head is three of these.
+const WORD: usize = 8;
 
 // Any heads, any buffer: refusal 9, then 8; else the header, then each head with free places behind it. Bytes beyond stay.
 pub fn build(heads: &[u8], table: &mut [u8]) -> Answer
@@ -119,8 +121,18 @@ fn put_cell(cell: &mut [u8], head: &[u8])
     requires { ⌜ (length (now cell) ≡ cellSize) × (length (now head) ≡ headSize) ⌝ }
     ensures { λ _. ⌜ now (cell .exit) ≡ emptyRun (now (head .entry)) ⌝ }
 {
-    copy(cell, 0, head);
+    put_head(cell, head);
     clear(&mut cell[HEAD..]);
+}
+
+// The head at the start of the cell, eight bytes at a time.
+fn put_head(cell: &mut [u8], head: &[u8])
+    requires { ⌜ (length (now head) ≡ headSize) × (headSize ≤ length (now cell)) ⌝ }
+    ensures { λ _. ⌜ now (cell .exit) ≡ sets (now (cell .entry)) 0 (now (head .entry)) ⌝ }
+{
+    put64(cell, 0, get64(head, 0));
+    put64(cell, WORD, get64(head, WORD));
+    put64(cell, 2 * WORD, get64(head, 2 * WORD));
 }
 
 fn clear(bytes: &mut [u8])

@@ -2,6 +2,7 @@
 ghost use mathlib.Core.Path.{_≡_};
 ghost use Prim.Native.Nat.{_+_, _*_, _≤_};
 ghost use lib.ListN.{length, drop};
+ghost use Rattle.octets.specs.Numbers.{be};
 ghost use Rattle.octets.specs.Runs.{gets, pieces};
 ghost use Rattle.rules.specs.Lists.{larger, every};
 ghost use Rattle.rules.specs.Layout.{headSize, placeSize, placesPerCell, cellSize};
@@ -49,6 +50,13 @@ use rules::layout::ZEROS_AT;
 
 // What one `get32` reads.
 const WORD: usize = 4;
+
+// Where areas stand in a head, and the word that ends with the last of them.
+const SECOND_AREA_AT: usize = AREAS_AT + AREA;
+
+const THIRD_AREA_AT: usize = AREAS_AT + 2 * AREA;
+
+const LAST_WORD_AT: usize = HEAD - WORD;
 
 // Above every identifier with its serial number: stands where there is none.
 const NO_TEXT: u64 = 1 << 32;
@@ -133,26 +141,24 @@ pub fn head_legal(head: &[u8]) -> bool
     (get64(head, 0) < CELL_END) & areas_legal(head, get8(head, AREAS_USED_AT))
 }
 
-// A test for each number of areas: the used ones first and ascending, the rest zero.
+// A test for each number of areas: the used ones first and ascending, the rest zero. Each asks no more than it needs.
 fn areas_legal(head: &[u8], used: u8) -> bool
     requires { ⌜ length (now head) ≡ headSize ⌝ }
     ensures { λ r. ⌜ r ≡ legalAreas used (allAreas (now (head .entry))) ⌝ }
 {
     if used == 0 {
-        return (get32(head, AREAS_AT) == 0)
-            & (get32(head, AREAS_AT + WORD) == 0)
-            & (get32(head, AREAS_AT + 2 * WORD) == 0);
+        return (get64(head, AREAS_AT) == 0) & (get32(head, LAST_WORD_AT) == 0);
     }
-    let a = get24(head, AREAS_AT);
-    let b = get24(head, AREAS_AT + AREA);
-    let c = get24(head, AREAS_AT + 2 * AREA);
-    let d = get24(head, AREAS_AT + 3 * AREA);
     if used == 1 {
-        return (b == 0) & (c == 0) & (d == 0);
+        return (get8(head, SECOND_AREA_AT) == 0) & (get64(head, SECOND_AREA_AT + 1) == 0);
     }
+    let a = upper24(head, AREAS_AT);
+    let b = upper24(head, SECOND_AREA_AT);
     if used == 2 {
-        return (a < b) & (c == 0) & (d == 0);
+        return (a < b) & (get16(head, THIRD_AREA_AT) == 0) & (get32(head, LAST_WORD_AT) == 0);
     }
+    let c = upper24(head, THIRD_AREA_AT);
+    let d = lower24(head, LAST_WORD_AT);
     if used == 3 {
         return (a < b) & (b < c) & (d == 0);
     }
@@ -160,6 +166,22 @@ fn areas_legal(head: &[u8], used: u8) -> bool
         return (a < b) & (b < c) & (c < d);
     }
     false
+}
+
+// The number that the first three of four bytes say: one load, where one of 24 bits is two.
+fn upper24(s: &[u8], at: usize) -> u32
+    requires { ⌜ at + 4 ≤ length (now s) ⌝ }
+    ensures { λ r. ⌜ r ≡ be (gets (now (s .entry)) at 3) ⌝ }
+{
+    get32(s, at) / 256
+}
+
+// The number that the last three of four bytes say.
+fn lower24(s: &[u8], at: usize) -> u32
+    requires { ⌜ at + 4 ≤ length (now s) ⌝ }
+    ensures { λ r. ⌜ r ≡ be (gets (now (s .entry)) (at + 1) 3) ⌝ }
+{
+    get32(s, at) % 16777216
 }
 
 // `a`, `b` and `c` are the last three texts: an identifier and a serial number each, as one number.

@@ -5,8 +5,8 @@ use Rattle.table.proofs.BuildLaws.{cell-stored}
 use Rattle.table.proofs.build.put_cell.Statement.{statement}
 use Rattle.table.proofs.build.put_cell.Tie as tie
 
-copy-requires : tie.Need-copy-requires
-copy-requires c κs = search needs
+put-head-requires : tie.Need-put-head-requires
+put-head-requires c κs = search needs
 
 sub-clear : tie.Need-sub-clear
 sub-clear c = search needs
@@ -27,13 +27,13 @@ returns : tie.Need-returns
 returns c =
     let copied = c .before .before .before .before .before .before in
     let start = copied .before .before .before .before in
-    cell-stored _ _ _ _ (start .pre .0) (start .pre .1) (copied .copy .ensures) (c .before .before .clear .ensures)
+    cell-stored _ _ _ _ (start .pre .0) (start .pre .1) (copied .put-head .ensures) (c .before .before .clear .ensures)
 
 pub put-cell-spec : {M : Type 1} → statement M
 put-cell-spec =
     tie.close
     (tie.spec
-    copy-requires
+    put-head-requires
     sub-clear
     part-clear-start
     part-clear-end
