@@ -55,8 +55,8 @@ target/staticlib/libpws.a: $(PROVED)
 	@touch $@
 
 # Times against the C++ engine written by hand and against second/ (docs/SPEED.md). PWS_REPORT=/path adds the report program.
-bench: bench-program
-	SECOND_REPORT=$(CURDIR)/target/bench/release/report target/bench/release/bench
+bench: bench-program target/bin/report
+	PWS_REPORT=$(CURDIR)/target/bin/report SECOND_REPORT=$(CURDIR)/target/bench/release/report target/bench/release/bench
 
 # Only that all three agree; the times are a glance and not judged.
 bench-quick: bench-program
