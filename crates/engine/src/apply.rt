@@ -54,7 +54,7 @@ fn room_for(kind: u8, cells: usize) -> usize
 fn verdict(table: &[u8], req: &[u8], room: usize) -> Verdict
     ensures { λ r. ⌜ r ≡ applyVerdict (now (table .entry)) (now (req .entry)) room ⌝ }
 {
-    if let Verdict::Refused(refusal) = table::judge::verdict(table) {
+    if let Verdict::Refused(refusal) = table::verdict(table) {
         return Verdict::Refused(refusal);
     }
     if let Verdict::Refused(refusal) = record::read::verdict(req) {

@@ -36,7 +36,7 @@ fn done(answer: Answer) -> PwsDone
 pub extern "C" fn pws_build(heads: &[u8], table: &mut [u8]) -> PwsDone
     ensures { λ r. ⌜ filled r (now (table .exit)) ≡ built (now (heads .entry)) (now (table .entry)) ⌝ }
 {
-    done(table::build::build(heads, table))
+    done(builder::build(heads, table))
 }
 
 #[no_mangle]

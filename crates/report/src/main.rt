@@ -8,6 +8,7 @@ ghost use Rattle.rules.specs.Layout.{mostCells};
 ghost use Rattle.lines.specs.Framing.{countSize, headsEnd};
 ghost use Rattle.report.specs.Report.{answerRoom, tableSize, mostText};
 ghost use Rattle.report.specs.Running.{Standing};
+use builder::build;
 use libc::STDIN_FILENO;
 use libc::STDOUT_FILENO;
 use lines::frame::cells;
@@ -23,7 +24,6 @@ use rules::layout::MOST_CELLS;
 use rules::layout::PLACES;
 use rules::layout::ROW;
 use serve::serve;
-use table::build::build;
 
 // The bytes of N.
 const COUNT: usize = 2;

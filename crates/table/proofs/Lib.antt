@@ -4,6 +4,4 @@ pub mod WalkLaws
 pub mod OrderLaws
 pub mod JudgeLaws
 pub mod PlacesLaws
-pub mod BuildLaws
-pub mod BuiltLaws
 pub mod Once

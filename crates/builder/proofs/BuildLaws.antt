@@ -1,0 +1,110 @@
+-- What the builder writes is the table that `built` asks: the header field by field, then for each head a cell with no live place.
+-- Stores one behind the other are one store (`sets-run`), and a legal head's bytes are those of what it says.
+use mathlib.Core.Path.{_≡_, refl, sym, _∙_}
+use mathlib.Core.List.{List, _++_, flatMap, append-assoc, append-nil}
+use Prim.Native.Nat.{ℕ, _+_, _-_, _*_, _≤_, _<_}
+use native.Mathlib.Omega.{arith}
+use borrow.Rule.Slice.PartMut.{midOf, putMid}
+use lib.ListN.{length, take, drop, replicate, length-append, length-drop, drop-of-length-le}
+use lib.Seq.{sets, sets-eq, length-sets, length-take-le, take-all, take-at, drop-drop}
+use Rattle.octets.specs.Runs.{gets, pieces, Bytes}
+use Rattle.octets.specs.Numbers.{be, toBe}
+use Rattle.octets.specs.Fields.{bytesOf}
+use Rattle.octets.proofs.RunsLaws.{gets-eq, gets-run, length-gets, sets-run, sets-front}
+use Rattle.octets.proofs.NumbersLaws.{length-toBe, toBe-gets}
+use Rattle.rules.specs.Layout.{placesPerCell, headerSize, headSize, cellSize, tableMark, tableVersion}
+use Rattle.rules.specs.Table.{headerBytes}
+use Rattle.builder.specs.Build.{emptyRun}
+use Rattle.octets.proofs.PiecesLaws.{pieces-more, pieces-none}
+
+-- ---- the header
+
+then-store : (w v : ℕ) (l vs : List ℕ) (i j : ℕ) → j ≡ i + w → sets (sets l i (toBe w v)) j vs ≡ sets l i (toBe w v ++ vs)
+then-store w v l vs i j e = sets-run (toBe w v) vs l i j (rw length-toBe e)
+
+pub header-stored : (n : ℕ) (t : List ℕ) {a b c d e : List ℕ} → a ≡ sets t 0 (toBe 3 tableMark) → b ≡ sets a 3 (toBe 2 tableVersion) → c ≡ sets b 5 (toBe 2 n)
+    → d ≡ sets c 7 (toBe 1 placesPerCell) → e ≡ sets d 8 (toBe 8 0) → e ≡ sets t 0 (headerBytes n)
+unfolding headerBytes bytesOf
+header-stored n t p q r s u =
+    rw (u, s, r, q, p, then-store 1 placesPerCell _ (toBe 8 0) 7 8 refl, then-store 2 n _ _ 5 7 refl, then-store 2 tableVersion _ _ 3 5 refl, then-store 3 tableMark t _ 0 3 refl, append-nil)
+
+-- ---- a cell
+
+-- a head that is stored in three parts is stored whole
+pub head-stored : (cell head : List ℕ) → Bytes head → length head ≡ headSize → {x y z : ℕ} → x ≡ be (gets head 0 8) → y ≡ be (gets head 8 8) → z ≡ be (gets head 16 8)
+    → {a b c : List ℕ} → a ≡ sets cell 0 (toBe 8 x) → b ≡ sets a 8 (toBe 8 y) → c ≡ sets b 16 (toBe 8 z) → c ≡ sets cell 0 head
+head-stored cell head bytes long x y z p q r =
+    let whole : gets head 0 24 ≡ head = gets-eq 24 head 0 (omega arith) ∙ take-all 24 head (omega arith) in
+    rw (r, q, p, x, y, z, toBe-gets 8 head 0 bytes, toBe-gets 8 head 8 bytes, toBe-gets 8 head 16 bytes)
+    (rw (sets-run (gets head 0 8) (gets head 8 8) cell 0 8 (rw length-gets), gets-run 8 head 0 8 8 refl)
+    (sets-run (gets head 0 16) (gets head 16 8) cell 0 16 (rw length-gets) ∙ rw (gets-run 16 head 0 16 8 refl, whole)))
+
+-- the front copied, and what is behind it cleared: a the list after the copy, z what was lent after the clearing
+front-stored : (w : ℕ) (l front a z : List ℕ) → length front ≡ w → w ≤ length l → a ≡ sets l 0 front → z ≡ replicate (length (midOf w (length a - w) a)) 0
+    → putMid w (length a - w) a z ≡ front ++ replicate (length l - w) 0
+front-stored w l front a z m f p q =
+    let long : length a ≡ length l = rw (p, length-sets) in
+    let take-front : take w a ≡ front = rw (p, sets-front l front (omega arith)) (take-at front (drop (length front) l) w m) in
+    let rest : length (drop w a) ≡ length l - w = rw (length-drop, long) in
+    rw (take-front, q, long, take-all (length l - w) (drop w a) (omega arith), drop-of-length-le (drop w a) {i = length l - w} (omega arith), rest, append-nil)
+
+pub cell-stored : (cell head a z : List ℕ) → length cell ≡ cellSize → length head ≡ headSize → a ≡ sets cell 0 head
+    → z ≡ replicate (length (midOf headSize (length a - headSize) a)) 0 → putMid headSize (length a - headSize) a z ≡ emptyRun head
+unfolding emptyRun
+cell-stored cell head a z n m p q = front-stored headSize cell head a z m (omega arith) p q ∙ rw n
+
+-- ---- the loop: what is stored is, with what is left, the whole
+
+pub record CellsLeft (t₀ heads : List ℕ) (count : ℕ) (t : List ℕ) (from at left : ℕ) : Type 0 where
+  pub source : from + headSize * left ≤ length heads
+  pub room : at + cellSize * left ≤ length t
+  pub long : length t ≡ length t₀
+  pub rest : sets t₀ headerSize (flatMap emptyRun (pieces headSize count heads)) ≡ sets t at (flatMap emptyRun (pieces headSize left (drop from heads)))
+
+pub cells-start : (t₀ heads : List ℕ) (count : ℕ) → headSize * count ≤ length heads → headerSize + cellSize * count ≤ length t₀
+    → CellsLeft t₀ heads count t₀ 0 headerSize count
+cells-start t₀ heads count s r = record { source = omega arith; room = r; long = refl; rest = refl }
+
+pub cells-end : {t₀ heads : List ℕ} {count : ℕ} {t : List ℕ} {from at left : ℕ} → CellsLeft t₀ heads count t from at left → left ≤ 0
+    → t ≡ sets t₀ headerSize (flatMap emptyRun (pieces headSize count heads))
+unfolding flatMap
+cells-end {heads} {from} {left} p h = sym (p .rest ∙ rw (pieces-none headSize left (drop from heads) h))
+
+length-emptyRun : (head : List ℕ) → length head ≡ headSize → length (emptyRun head) ≡ cellSize
+unfolding emptyRun
+length-emptyRun head e = rw (length-append, e)
+
+module _ {t₀ heads : List ℕ} {count : ℕ} {t : List ℕ} {from at left : ℕ} (p : CellsLeft t₀ heads count t from at left) (h : 0 < left)
+    (new : List ℕ) (en : new ≡ emptyRun (take (from + headSize - from) (drop from heads))) where
+  -- the head that was lent
+  abbrev head : List ℕ
+  head = take headSize (drop from heads)
+
+  lent : new ≡ emptyRun head
+  lent = let k : from + headSize - from ≡ headSize = omega arith in en ∙ rw k
+
+  sized : length new ≡ cellSize
+  sized =
+      let s = p .source in
+      let d : length (drop from heads) ≡ length heads - from = length-drop from heads in
+      rw lent (length-emptyRun head (length-take-le headSize (drop from heads) (omega arith)))
+
+  stored : putMid at (at + cellSize - at) t new ≡ sets t at new
+  stored =
+      let r = p .room in
+      let k : at + cellSize - at ≡ cellSize = omega arith in
+      rw (k, sets-eq new t at (omega (arith, sized)), sized, drop-drop cellSize at t, append-assoc)
+
+  pub cells-on : CellsLeft t₀ heads count (putMid at (at + cellSize - at) t new) (from + headSize) (at + cellSize) (left - 1)
+  unfolding flatMap
+  cells-on =
+      let s = p .source in
+      let r = p .room in
+      let l : length (sets t at new) ≡ length t = length-sets t at new in
+      rw stored
+      (record {
+        source = omega arith;
+        room = omega arith;
+        long = l ∙ p .long;
+        rest = p .rest ∙ rw (pieces-more headSize left from heads h, ← lent, sets-run new _ t at (at + cellSize) (rw sized));
+      })
