@@ -1,5 +1,5 @@
 -- One outcome only: what a function of this crate returns or leaves, its arguments settle.
--- Each promise of this crate is an equation between what is left and a definition, so it admits one outcome; the instances below cover every public function.
+-- Each promise of this crate is an equation between what is left and a definition, so it admits one outcome; the instances below cover every read and write; for `turned64` and `says64` it is `one-outcome` itself.
 use mathlib.Core.Path.{_≡_, sym, _∙_}
 use mathlib.Core.List.{List, map}
 use Prim.Native.Nat.{ℕ}

@@ -1,19 +1,22 @@
 -- Laws of numbers with their bytes turned round: a number loaded least byte first and turned is the big-endian one, and so is one turned and stored.
 -- By induction over the bytes or the width, as in NumbersLaws; both ways rest on `toLe-le`, that bytes are what the number that they say has.
 use mathlib.Core.Path.{_≡_, refl, sym, ap, _∙_}
+use mathlib.Core.Bool.{Bool, true, false}
 use mathlib.Core.List.{List, [], _∷_, _++_}
 use Prim.Native.Nat.{ℕ, zero, suc, _+_, _*_, _/_, _%_, _^_, _<_}
 use native.Mathlib.Nat.{pow-succ', div-one, div-div-eq-div-mul, mul-assoc, mul-add, mul-comm, add-assoc, add-comm, zero-add, suc-add}
 use native.Mathlib.Numerals.{add-one}
 use native.Mathlib.Omega.{arith}
+use borrow.Author.Tests.{eqb-true, eqb-false, eq-eqb, ne-eqb}
 use lib.Arith.{digits-div, digits-mod, mod-mul}
+use lib.Dec.{eqb}
 use lib.ListN.{length, getD}
 use lib.Seq.{sets}
 use Rattle.octets.specs.Runs.{gets, Bytes}
 use Rattle.octets.specs.Numbers.{be, toBe}
 use Rattle.octets.specs.Turned.{le, toLe, turned}
 use Rattle.octets.proofs.RunsLaws.{gets-run, length-gets, sets-run, bytes-gets}
-use Rattle.octets.proofs.NumbersLaws.{pow-pos256, length-toBe, bytes-toBe, toBe-add}
+use Rattle.octets.proofs.NumbersLaws.{pow-pos256, length-toBe, bytes-toBe, be-toBe, toBe-add}
 
 -- ---- loaded
 
@@ -107,3 +110,20 @@ turned-le (b ∷ bs) h =
 
 pub turned-gets : (n : ℕ) (l : List ℕ) (i : ℕ) → Bytes l → turned n (le (gets l i n)) ≡ be (gets l i n)
 turned-gets n l i h = rw length-gets at (turned-le (gets l i n) (bytes-gets n l i h))
+
+-- ---- turned and compared
+
+pub turned-twice : (w v : ℕ) → v < 256 ^ w → turned w (turned w v) ≡ v
+unfolding turned
+turned-twice w v h = rw length-toBe at (turned-le (toBe w v) (bytes-toBe w v h)) ∙ be-toBe w v h
+
+-- a number loaded is the one that was turned exactly if the bytes say the other
+pub says-turned : (n : ℕ) (l : List ℕ) (i v : ℕ) → Bytes l → v < 256 ^ n → eqb (le (gets l i n)) v ≡ eqb (be (gets l i n)) (turned n v)
+says-turned n l i v h lt = go (eqb (le (gets l i n)) v) refl
+  where
+    loaded : turned n (be (gets l i n)) ≡ le (gets l i n)
+    loaded = rw (← turned-gets n l i h) (turned-twice n (le (gets l i n)) (rw length-gets at (le-lt (gets l i n) (bytes-gets n l i h))))
+
+    go : (b : Bool) → eqb (le (gets l i n)) v ≡ b → b ≡ eqb (be (gets l i n)) (turned n v)
+    go true e = sym (eq-eqb _ _ (sym (turned-gets n l i h) ∙ ap (turned n) (eqb-true _ _ e)))
+    go false e = sym (ne-eqb _ _ (λ q. eqb-false _ _ e (sym loaded ∙ ap (turned n) q ∙ turned-twice n v lt)))

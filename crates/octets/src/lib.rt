@@ -13,11 +13,13 @@ use turned::turn64;
 ghost use mathlib.Core.Path.{_≡_};
 ghost use mathlib.Core.List.{map};
 ghost use Prim.Native.Nat.{_+_, _*_, _<_, _≤_};
+ghost use lib.Dec.{eqb};
 ghost use lib.ListN.{length, drop};
 ghost use lib.Seq.{sets};
 ghost use Rattle.octets.specs.Runs.{gets, pieces};
 ghost use Rattle.octets.specs.Numbers.{be, toBe};
 ghost use Rattle.octets.specs.Joined.{joined};
+ghost use Rattle.octets.specs.Turned.{turned};
 
 // Reads: the number that the bytes at an index say.
 pub fn get8(s: &[u8], at: usize) -> u8
@@ -69,6 +71,21 @@ pub fn any64(s: &[u8], at: usize, n: usize) -> u64
         left -= 1;
     }
     turn64(any)
+}
+
+// A number with its bytes turned round, as a load leaves it: turned once, it is compared with many loads.
+pub fn turned64(x: u64) -> u64
+    ensures { λ r. ⌜ r ≡ turned 8 x ⌝ }
+{
+    turn64(x)
+}
+
+// Whether the bytes at an index say the number that was turned.
+pub fn says64(s: &[u8], at: usize, key: u64) -> bool
+    requires { ⌜ at + 8 ≤ length (now s) ⌝ }
+    ensures { λ r. ⌜ r ≡ eqb (be (gets (now (s .entry)) at 8)) (turned 8 key) ⌝ }
+{
+    load64(s, at) == key
 }
 
 // Writes: the bytes of a number at an index; every other byte stays.
