@@ -1,3 +1,4 @@
+pub mod Searching
 pub mod Walking
 pub mod Passes
 pub mod WalkFacts

@@ -1,71 +1,38 @@
 -- The walk's two loops in document 01's words: the search among the items, and a cell that is reached or not.
 -- What a search has still to look through decides; a reached cell's routine leaves the bytes that the rule gives.
 use mathlib.Core.Path.{_≡_, refl, sym, ap, _∙_}
-use mathlib.Core.Bool.{Bool, true, false, cond, _||_}
-use mathlib.Core.List.{List, [], _∷_, _++_, map, flatMap}
-use Prim.Native.Nat.{ℕ, zero, suc, _+_, _*_, _-_, _<_, _≤_}
+use mathlib.Core.Bool.{Bool, true, false, cond}
+use mathlib.Core.List.{List, [], flatMap}
+use Prim.Native.Nat.{ℕ, _+_, _*_, _-_, _<_, _≤_}
 use native.Mathlib.Nat.{mul-assoc, mul-le-mul, zero-add}
 use native.Mathlib.Omega.{arith}
 use borrow.Rule.Slice.PartMut.{putMid, midOf}
 use lib.Dec.{eqb}
 use lib.ListN.{length, take, drop, length-drop, length-map}
-use lib.Seq.{sets, drop-drop, length-take-le}
-use Rattle.octets.specs.Runs.{Bytes, gets, pieces}
-use Rattle.octets.specs.Numbers.{be}
-use Rattle.octets.proofs.PiecesLaws.{pieces-next}
+use lib.Seq.{sets, length-take-le}
+use Rattle.octets.specs.Runs.{Bytes}
 use Rattle.octets.proofs.RunsLaws.{bytes-drop}
-use Rattle.rules.specs.Lists.{any, every}
 use Rattle.rules.specs.Layout.{headerSize, headSize, cellSize, recordSize, itemSize, answerSize, rowSize, placesPerCell, mostCells}
-use Rattle.rules.specs.Table.{headOf, cellOf, cellBytes, legalHead, legalCell, cellCount, cellRuns}
-use Rattle.rules.specs.Record.{noArea, oneSecond, requestOf, itemCount, itemsOf}
+use Rattle.rules.specs.Table.{headOf, cellOf, legalCell, cellRuns}
+use Rattle.rules.specs.Record.{noArea, oneSecond, requestOf, itemsOf}
 use Rattle.rules.specs.Reach.{names, reaches}
 use Rattle.rules.specs.InCell.{inCell}
-use Rattle.rules.specs.Answer.{Row, rowBytes, rowsPerCell, roomFor}
-use Rattle.rules.specs.Refusals.{applyVerdict}
-use Rattle.rules.specs.Applied.{stepCell, cellAfter, rowOf, cellRows}
+use Rattle.rules.specs.Answer.{rowBytes, rowsPerCell, roomFor}
+use Rattle.rules.specs.Applied.{cellAfter, rowOf, cellRows}
 use Rattle.rules.specs.declared.Request.{Request}
-use Rattle.rules.specs.declared.Verdict.the-variants.{Accepted}
 use Rattle.rules.proofs.ListsLaws.{cond-either}
 use Rattle.rules.proofs.CellCodec.{legal-cell}
-use Rattle.rules.proofs.TableCodec.{LegalTable, table-accepted}
+use Rattle.rules.proofs.TableCodec.{table-accepted}
 use Rattle.rules.proofs.StepLaws.{step-reached, rows-reached, rows-unreached}
 use Rattle.rules.proofs.RecordTrips.{record-accepted}
-use Rattle.rules.proofs.AppliedLaws.{AcceptedCall, call-accepted}
+use Rattle.rules.proofs.AppliedLaws.{call-accepted}
 use Rattle.cell.specs.Places.{livePlaces, withPlaces}
 use Rattle.cell.proofs.PlacesLaws.{withPlaces-cell}
 use Rattle.engine.specs.Step.{rowsBytes, Ready, Stepped}
 use Rattle.engine.specs.Reach.{namedBy}
 use Rattle.engine.specs.declared.reach.Naming.{Naming}
-use Rattle.engine.specs.Walk.{rowsAfter, tableAfter, WalkIn, WalkOut}
+use Rattle.engine.specs.Walk.{rowsAfter, tableAfter, WalkIn}
 use Rattle.engine.proofs.Walking.{Going, cell-long, cell-bytes, cell-legal, room-here, skip, step-cell}
-
--- ---- the search among the items
-
--- the items that the search has still to look through
-abbrev pub itemsFrom : ℕ → ℕ → List ℕ → List ℕ
-itemsFrom from todo r = map be (pieces itemSize todo (drop from r))
-
-module _ (p : ℕ → Bool) (r : List ℕ) (from todo : ℕ) where
-  pub search-none : todo ≤ 0 → any p (itemsFrom from todo r) ≡ false
-  unfolding any pieces
-  search-none h = let z : todo ≡ 0 = omega arith in rw z
-
-  search-next : 0 < todo → from + itemSize * todo ≡ length r
-      → any p (itemsFrom from todo r) ≡ (p (be (gets r from itemSize)) || any p (itemsFrom (from + itemSize) (todo - 1) r))
-  unfolding any
-  search-next h e = rw (pieces-next itemSize todo r from h (omega arith))
-
-  pub search-hit : 0 < todo → from + itemSize * todo ≡ length r → p (be (gets r from itemSize)) ≡ true → any p (itemsFrom from todo r) ≡ true
-  search-hit h e x = search-next h e ∙ rw x
-
-  pub search-miss : 0 < todo → from + itemSize * todo ≡ length r → p (be (gets r from itemSize)) ≡ false
-      → any p (itemsFrom from todo r) ≡ any p (itemsFrom (from + itemSize) (todo - 1) r)
-  search-miss h e x = search-next h e ∙ rw x
-
-pub search-start : (area : ℕ) (r : List ℕ) (n : ℕ) (c : List ℕ) → n ≡ itemCount r
-    → reaches area (itemsOf r) (cellOf c .head) ≡ cond (eqb area noArea) true (any (names area (cellOf c .head)) (itemsFrom recordSize n r))
-unfolding reaches itemsOf
-search-start area r n c e = rw e
 
 -- ---- a cell, by whether it is reached
 
@@ -162,15 +129,23 @@ module _ (q : Request) (items T A : List ℕ) (R most lt la : ℕ) (t a : List �
       → GoingOn q items T A R most lt la (putMid at k t c′) (putMid out m a o′) (at + cellSize) (out + rowSize * n) (rows + n) (left - 1)
   stepped e k m ek em c′ o′ n s same = rw ek (stepped-here e m em c′ o′ n (rw ek at s) (rw ek at same))
 
--- ---- an item of the record, and what names the cell
+-- ---- the record's items
 
 pub items-span : (t : List ℕ) (cells : ℕ) (r : List ℕ) (items : ℕ) (q : Request) (new a : List ℕ) → WalkIn t cells r items q new a
     → recordSize + itemSize * items ≡ length r
 items-span t cells r items q new a w =
     rw (w .all-items) (sym (record-accepted r (call-accepted t r (length a) (w .accepted) .req) .size))
 
-pub named-so : (t : List ℕ) (at k area : ℕ) (naming : Naming) → k ≡ cellSize
-    → ((x : ℕ) → namedBy naming x ≡ names area (headOf (take headSize (midOf at k t))) x) → (g x : ℕ) (b : Bool) → b ≡ namedBy naming g → g ≡ x
-    → names area (cellOf (take cellSize (drop at t)) .head) x ≡ b
+-- as many of them are there as are looked through
+pub search-span : (t : List ℕ) (cells : ℕ) (r : List ℕ) (items : ℕ) (q : Request) (new a : List ℕ) → WalkIn t cells r items q new a → (b : Bool) (todo : ℕ) → todo ≡ cond b 0 items
+    → recordSize + itemSize * todo ≤ length r
+search-span t cells r items q new a w b todo e =
+    let span = items-span t cells r items q new a w in
+    rw e (cond-either (λ (n : ℕ). recordSize + itemSize * n ≤ length r) b 0 items (λ _. omega (arith, span)) (λ _. omega (arith, span)))
+
+-- what names the cell that was lent
+pub named-here : (t : List ℕ) (at k area : ℕ) (s : Naming) → k ≡ cellSize
+    → ((x : ℕ) → namedBy s x ≡ cond (eqb area noArea) false (names area (headOf (take headSize (midOf at k t))) x))
+    → (x : ℕ) → eqb area noArea ≡ false → namedBy s x ≡ names area (cellOf (take cellSize (drop at t)) .head) x
 unfolding cellOf
-named-so t at k area naming ek h g x b eb eg = sym (eb ∙ h g ∙ rw (ek, eg))
+named-here t at k area s ek h x e = h x ∙ rw (e, ek)

@@ -1,9 +1,10 @@
 // The walk: cells around items, for every kind.
 ghost use Rattle.engine.specs.Walk.{WalkIn, WalkOut};
-use crate::reach::named;
+use crate::reach::among_four;
 use crate::reach::naming_of;
+use crate::reach::reached_at_last;
+use crate::reach::to_search;
 use crate::step::step_cell;
-use octets::get64;
 use rules::Request;
 use rules::kind::NO_AREA;
 use rules::layout::ANSWER;
@@ -13,7 +14,8 @@ use rules::layout::ITEM;
 use rules::layout::RECORD;
 use rules::layout::ROW;
 
-// Only the bytes of a reached cell are lent on. Without an area there are no items, and every cell is reached.
+// Only the bytes of a reached cell are lent on. Without an area there are no items, and every cell is reached. The search goes by four
+// items, in their order, and the last one to three follow.
 pub fn walk(
     table: &mut [u8],
     cells: usize,
@@ -38,16 +40,16 @@ pub fn walk(
         let naming = naming_of(&table[start..at], area);
         let mut reached = area == NO_AREA;
         let mut from = RECORD;
-        let mut todo = items;
-        'items: while 0 < todo {
-            if named(naming, get64(req, from)) {
+        let mut todo = to_search(naming, items);
+        'items: while 3 < todo {
+            if among_four(naming, req, from) {
                 reached = true;
                 break 'items;
             }
-            from += ITEM;
-            todo -= 1;
+            from += 4 * ITEM;
+            todo -= 4;
         }
-        if reached {
+        if reached_at_last(reached, naming, req, from, todo) {
             let n = step_cell(&mut table[start..at], request, new, &mut answer[out..]);
             out += ROW * n;
             rows += n;

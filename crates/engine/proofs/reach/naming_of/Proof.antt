@@ -1,35 +1,51 @@
--- `naming_of` reads what names a cell by the area's kind: each way out is its case of `names`.
--- Assumes nothing.
-use mathlib.Core.Path.{_≡_, refl, sym, ap, _∙_}
-use borrow.Author.Needs.{needs}
+-- `naming_of` reads what names a cell by the kind of area: each way out is its case of `names`.
+use mathlib.Core.Path.{_∙_}
 use borrow.Author.Tests.{eq-eqb, ne-eqb}
+use borrow.Author.Needs.{needs}
 use Rattle.rules.specs.Reach.{names}
 use Rattle.engine.specs.Reach.{namedBy}
 use Rattle.engine.proofs.reach.naming_of.Statement.{statement}
 use Rattle.engine.proofs.reach.naming_of.Tie as tie
 
+returns : tie.Need-returns
+unfolding namedBy
+returns c x = rw (eq-eqb _ _ (c .if1 .taken))
+
 identity-requires : tie.Need-identity-requires
 identity-requires c κs = search needs
 
-returns : tie.Need-returns
-unfolding namedBy names
-returns c x = rw (eq-eqb _ _ (c .before .if1 .taken), c .identity .ensures)
+one-requires : tie.Need-one-requires
+one-requires c κs = search needs
+
+returns-2 : tie.Need-returns-2
+unfolding names
+returns-2 c x =
+    c .one .ensures x
+    ∙ rw (ne-eqb _ _ (c .before .before .before .if1 .left), eq-eqb _ _ (c .before .before .if2 .taken), c .before .identity .ensures)
 
 tracking-requires : tie.Need-tracking-requires
 tracking-requires c κs = search needs
 
-returns-2 : tie.Need-returns-2
-unfolding namedBy names
-returns-2 c x = rw (ne-eqb _ _ (c .before .before .if1 .left), eq-eqb _ _ (c .before .if2 .taken), c .tracking .ensures)
+one-requires-2 : tie.Need-one-requires-2
+one-requires-2 c κs = search needs
+
+returns-3 : tie.Need-returns-3
+unfolding names
+returns-3 c x =
+    c .one2 .ensures x
+    ∙ rw (ne-eqb _ _ (c .before .before .before .before .if1 .left), ne-eqb _ _ (c .before .before .before .if2 .left), eq-eqb _ _ (c .before .before .if3 .taken), c .before .tracking .ensures)
 
 areas-of-requires : tie.Need-areas-of-requires
 areas-of-requires c κs = search needs
 
-returns-3 : tie.Need-returns-3
-unfolding namedBy names
-returns-3 c x = rw (ne-eqb _ _ (c .before .before .if1 .left), ne-eqb _ _ (c .before .if2 .left), c .areas-of .ensures .in-use)
+several-requires : tie.Need-several-requires
+several-requires c κs = search needs
+
+returns-4 : tie.Need-returns-4
+unfolding names
+returns-4 c x =
+    c .several .ensures x
+    ∙ rw (ne-eqb _ _ (c .before .before .before .before .if1 .left), ne-eqb _ _ (c .before .before .before .if2 .left), ne-eqb _ _ (c .before .before .if3 .left), c .before .areas-of .ensures .in-use)
 
 pub naming-of-spec : {M : Type 1} → statement M
-naming-of-spec =
-    tie.close
-    (tie.spec identity-requires returns tracking-requires returns-2 areas-of-requires returns-3)
+naming-of-spec = tie.close (tie.spec returns identity-requires one-requires returns-2 tracking-requires one-requires-2 returns-3 areas-of-requires several-requires returns-4)

@@ -1,35 +1,28 @@
 -- The walk leaves the table cell by cell and the rows as the rules give them.
--- Between two cells: what is done, with what the rules say of the cells still to come, is the goal (Walking); between two items: the items still to come decide.
+-- Between two cells: what is done, with what the rules say of the cells still to come, is the goal (Walking); between two runs of four items: the items still to come decide.
 use Prim.Native.Nat.{_+_, _*_, _-_, _≤_}
-use mathlib.Core.Bool.{Bool, true, false, cond}
+use mathlib.Core.Bool.{Bool, true, false, cond, false≢true}
 use mathlib.Core.List.{flatMap}
 use mathlib.Core.Path.{_≡_, refl, sym, ap, _∙_}
 use mathlib.Core.Logic.{⊎-elim}
 use native.Mathlib.Omega.{arith}
 use borrow.Author.Needs.{needs}
+use lib.Dec.{eqb}
 use lib.ListN.{length, take, drop}
 use lib.Seq.{sets}
 use Rattle.rules.specs.Lists.{any}
 use Rattle.rules.specs.Layout.{cellSize, itemSize, answerSize, placesPerCell, mostCells}
 use Rattle.rules.specs.Table.{cellOf, cellRuns}
 use Rattle.rules.specs.Record.{itemsOf}
-use Rattle.rules.specs.Reach.{names, reaches}
+use Rattle.rules.specs.Reach.{reaches}
 use Rattle.rules.specs.Answer.{rowBytes}
 use Rattle.engine.specs.Walk.{rowsAfter, tableAfter}
-use Rattle.engine.proofs.WalkFacts.{itemsFrom, search-none, search-hit, search-miss, search-start, items-span, named-so, few-rows, GoingOn, begin, asked, passed, stepped}
+use Rattle.engine.specs.Reach.{byKeys, itemsFrom}
+use Rattle.engine.proofs.Searching.{search-hit, search-miss, search-start}
+use Rattle.engine.proofs.WalkFacts.{search-span, named-here, few-rows, GoingOn, begin, asked, passed, stepped}
 use Rattle.engine.proofs.Walking.{cell-long, few-here, over-table, over-count, over-answer}
 use Rattle.engine.proofs.walk.walk.Statement.{statement}
 use Rattle.engine.proofs.walk.walk.Tie as tie
-use Rattle.engine.proofs.walk.walk.Reads as reads
-use Rattle.engine.proofs.walk.walk.Lts as lts
-use Rattle.engine.proofs.reach.named.Reads as named-reads
-use Rattle.engine.proofs.reach.naming_of.Reads as naming-of-reads
-use Rattle.engine.proofs.step.step_cell.Reads as step-cell-reads
-use Rattle.octets.proofs.get64.Reads as get64-reads
-
-cond-self : (b : Bool) → cond b true false ≡ b
-cond-self true = refl
-cond-self false = refl
 
 cond-true : (b : Bool) → cond b true true ≡ true
 cond-true true = refl
@@ -37,9 +30,8 @@ cond-true false = refl
 
 abbrev Inv-items : tie.InvT-items
 Inv-items table cells req items request new answer area at out rows left start naming reached₀ from₀ todo₀ reached from todo =
-    (from + itemSize * todo ≡ length req)
-    × (reaches area (itemsOf req) (cellOf (take cellSize (drop start table)) .head)
-    ≡ cond reached true (any (names area (cellOf (take cellSize (drop start table)) .head)) (itemsFrom from todo req)))
+    (from + itemSize * todo ≤ length req)
+    × (reaches area (itemsOf req) (cellOf (take cellSize (drop start table)) .head) ≡ cond reached true (any (byKeys naming) (itemsFrom from todo req)))
 
 abbrev μ-items : tie.MeasureT-items
 μ-items table cells req items request new answer area at out rows left start naming reached₀ from₀ todo₀ reached from todo =
@@ -55,181 +47,153 @@ abbrev μ-cells : tie.MeasureT-cells
 μ-cells table₀ cells req items request new answer₀ area at₀ out₀ rows₀ left₀ table answer at out rows left =
     left
 
--- src/walk.rt:33:5
 cells-holds : tie.Need-cells-holds Inv-items μ-items Inv-cells μ-cells
 cells-holds c =
     let p = c .before .before .before .before in
     begin (p .args .table .now) (p .args .cells) (p .args .req .now) (p .args .items) (p .args .request) (p .args .new .now) (p .args .answer .now) (λ i. c .before .before .before .slice-known .given i .fits) (p .pre)
 
--- src/walk.rt:35:9
 add-at : tie.Need-add-at Inv-items μ-items Inv-cells μ-cells
 add-at c = omega arith
 
--- src/walk.rt:36:9
 sub-left : tie.Need-sub-left Inv-items μ-items Inv-cells μ-cells
 sub-left c = omega arith
 
--- src/walk.rt:37:32
 sub-naming-of : tie.Need-sub-naming-of Inv-items μ-items Inv-cells μ-cells
 sub-naming-of c = omega arith
 
--- src/walk.rt:37:32
 part-naming-of-start : tie.Need-part-naming-of-start Inv-items μ-items Inv-cells μ-cells
 part-naming-of-start c = omega arith
 
--- src/walk.rt:37:32
 part-naming-of-end : tie.Need-part-naming-of-end Inv-items μ-items Inv-cells μ-cells
 part-naming-of-end c = omega arith
 
--- src/walk.rt:37:13
 naming-of-requires : tie.Need-naming-of-requires Inv-items μ-items Inv-cells μ-cells
 naming-of-requires c κs =
     let l = c .before .before .before .cells in
     let k : l .at + cellSize - l .at ≡ cellSize = omega arith in
     rw k (cell-long _ _ _ _ _ _ _ _ _ _ _ _ _ _ _ (l .inv) (c .before .before .cells-test .taken))
 
--- src/walk.rt:41:9
+to-search-requires : tie.Need-to-search-requires Inv-items μ-items Inv-cells μ-cells
+to-search-requires c κs = search needs
+
 items-holds : tie.Need-items-holds Inv-items μ-items Inv-cells μ-cells
 items-holds c =
-    let p = c .before .before .before .before .before .before .before .before .before in
-    let l = c .before .before .before .before .cells in (
-      items-span _ _ _ _ _ _ _ (p .pre),
-      search-start (p .args .request .area) (p .args .req .now) (p .args .items) (take cellSize (drop (l .at) (l .table))) (p .pre .all-items),
+    let p = c .before .before .before .before .before .before .before .before .before .before in
+    let l = c .before .before .before .before .before .cells in
+    let k : l .at + cellSize - l .at ≡ cellSize = omega arith in (
+      search-span _ _ _ _ _ _ _ (p .pre) (eqb (c .before .naming-of .result .keys) 0) _ (c .to-search .ensures),
+      search-start (p .args .request .area) (p .args .req .now) (p .args .items) (c .to-search .result) (take cellSize (drop (l .at) (l .table))) (c .before .naming-of .result) (p .pre .all-items) (c .to-search .ensures)
+          (named-here (l .table) (l .at) (l .at + cellSize - l .at) (p .args .request .area) (c .before .naming-of .result) k (c .before .naming-of .ensures)),
     )
 
--- src/walk.rt:42:30
-get64-requires : tie.Need-get64-requires Inv-items μ-items Inv-cells μ-cells
-get64-requires c κs = omega arith
+among-four-requires : tie.Need-among-four-requires Inv-items μ-items Inv-cells μ-cells
+among-four-requires c κs = omega arith
 
--- src/walk.rt:42:16
-named-requires : tie.Need-named-requires Inv-items μ-items Inv-cells μ-cells
-named-requires c κs = search needs
+mul-from : tie.Need-mul-from Inv-items μ-items Inv-cells μ-cells
+mul-from c = omega arith
 
--- src/walk.rt:46:13
 add-from : tie.Need-add-from Inv-items μ-items Inv-cells μ-cells
 add-from c = omega arith
 
--- src/walk.rt:47:13
 sub-todo : tie.Need-sub-todo Inv-items μ-items Inv-cells μ-cells
 sub-todo c = omega arith
 
--- src/walk.rt:41:9
 items-less : tie.Need-items-less Inv-items μ-items Inv-cells μ-cells
 items-less c = omega arith
 
--- src/walk.rt:41:9
 items-again : tie.Need-items-again Inv-items μ-items Inv-cells μ-cells
 items-again c =
-    let i = c .before .before .before .before .items in
-    let l = c .before .before .before .before .before .before .before .before .before .cells in
-    let p = c .before .before .before .before .before .before .before .before .before .before .before .before .before .before in
-    let k : l .at + cellSize - l .at ≡ cellSize = omega arith in (
+    let i = c .before .before .before .items in
+    let p = c .before .before .before .before .before .before .before .before .before .before .before .before .before .before in (
       omega arith,
       i .inv .1
           ∙ ap (cond (i .reached) true)
-          (search-miss (names (p .args .request .area) (cellOf (take cellSize (drop (l .at) (l .table))) .head)) (p .args .req .now) (i .from) (i .todo) (c .before .before .before .items-test .taken) (i .inv .0)
-          (named-so (l .table) (l .at) (l .at + cellSize - l .at) (p .args .request .area) _ k (c .before .before .before .before .before .naming-of .ensures) _ _ _ (c .before .named .ensures) (c .before .before .get64 .ensures) ∙ c .if1 .left)),
+          (search-miss (byKeys (c .before .before .before .before .before .naming-of .result)) (p .args .req .now) (i .from) (i .todo) (c .before .before .items-test .taken) (i .inv .0) (sym (c .before .among-four .ensures) ∙ c .if1 .left)),
     )
 
+reached-at-last-requires : tie.Need-reached-at-last-requires Inv-items μ-items Inv-cells μ-cells
+reached-at-last-requires c κs =
+    (c .before .items .inv .0, λ e. ⊎-elim (λ w. omega (arith, w .0 .left)) (λ w. absurd (false≢true (sym e ∙ w .3))) (c .items-test .came))
+
 -- whether the cell is reached, where the search has ended
-found : (c : tie.Left-items Inv-items μ-items Inv-cells μ-cells)
-    → reaches (c .before .before .before .before .before .before .before .before .before .before .before .args .request .area) (itemsOf (c .before .before .before .before .before .before .before .before .before .before .before .args .req .now)) (cellOf (take cellSize (drop (c .before .before .before .before .before .before .cells .at) (c .before .before .before .before .before .before .cells .table))) .head) ≡ c .items-test .reached
+found : (c : tie.After-reached-at-last Inv-items μ-items Inv-cells μ-cells)
+    → reaches (c .before .before .before .before .before .before .before .before .before .before .before .before .before .args .request .area) (itemsOf (c .before .before .before .before .before .before .before .before .before .before .before .before .before .args .req .now)) (cellOf (take cellSize (drop (c .before .before .before .before .before .before .before .before .cells .at) (c .before .before .before .before .before .before .before .before .cells .table))) .head) ≡ c .reached-at-last .result
 found c =
-    let i = c .before .items in
-    let l = c .before .before .before .before .before .before .cells in
-    let p = c .before .before .before .before .before .before .before .before .before .before .before in
-    let k : l .at + cellSize - l .at ≡ cellSize = omega arith in
-    let by = names (p .args .request .area) (cellOf (take cellSize (drop (l .at) (l .table))) .head) in
+    let i = c .before .before .items in
+    let p = c .before .before .before .before .before .before .before .before .before .before .before .before .before in
+    let by = byKeys (c .before .before .before .before .naming-of .result) in
+    let rest = any by (itemsFrom (i .from) (i .todo) (p .args .req .now)) in
     ⊎-elim
-    (λ w. i .inv .1 ∙ ap (cond (i .reached) true) (search-none by (p .args .req .now) (i .from) (i .todo) (w .0 .left)) ∙ cond-self (i .reached) ∙ sym (w .1))
+    (λ w. i .inv .1 ∙ ap (λ (b : Bool). cond b true rest) (sym (w .1)) ∙ sym (c .reached-at-last .ensures))
     (λ w.
     i .inv .1
-    ∙ ap (cond (i .reached) true)
-    (search-hit by (p .args .req .now) (i .from) (i .todo) (w .0 .taken) (i .inv .0)
-    (named-so (l .table) (l .at) (l .at + cellSize - l .at) (p .args .request .area) _ k (c .before .before .naming-of .ensures) _ _ _ (w .2 .ensures) (w .1 .ensures) ∙ w .3 .taken))
+    ∙ ap (cond (i .reached) true) (search-hit by (p .args .req .now) (i .from) (i .todo) (w .0 .taken) (i .inv .0) (sym (w .1 .ensures) ∙ w .2 .taken))
     ∙ cond-true (i .reached)
-    ∙ sym (w .4))
-    (c .items-test .came)
+    ∙ sym (c .reached-at-last .ensures ∙ ap (λ (b : Bool). cond b true rest) (w .3)))
+    (c .before .items-test .came)
 
--- src/walk.rt:50:31
 sub-step-cell : tie.Need-sub-step-cell Inv-items μ-items Inv-cells μ-cells
 sub-step-cell c = omega arith
 
--- src/walk.rt:50:31
 part-step-cell-start : tie.Need-part-step-cell-start Inv-items μ-items Inv-cells μ-cells
 part-step-cell-start c = omega arith
 
--- src/walk.rt:50:31
 part-step-cell-end : tie.Need-part-step-cell-end Inv-items μ-items Inv-cells μ-cells
 part-step-cell-end c = omega arith
 
--- src/walk.rt:50:68
 sub-step-cell-2 : tie.Need-sub-step-cell-2 Inv-items μ-items Inv-cells μ-cells
 sub-step-cell-2 c = omega arith
 
--- src/walk.rt:50:68
 part-step-cell-start-2 : tie.Need-part-step-cell-start-2 Inv-items μ-items Inv-cells μ-cells
 part-step-cell-start-2 c = omega arith
 
--- src/walk.rt:50:68
 part-step-cell-end-2 : tie.Need-part-step-cell-end-2 Inv-items μ-items Inv-cells μ-cells
 part-step-cell-end-2 c = omega arith
 
--- src/walk.rt:50:17
 step-cell-requires : tie.Need-step-cell-requires Inv-items μ-items Inv-cells μ-cells
 step-cell-requires c κs =
-    let l = c .before .before .before .before .before .before .before .before .before .cells in
+    let l = c .before .before .before .before .before .before .before .before .before .before .before .cells in
     let k : l .at + cellSize - l .at ≡ cellSize = omega arith in
-    (asked _ _ _ _ _ _ _ _ _ _ _ _ _ _ (l .inv) (c .before .before .before .before .before .before .before .before .cells-test .taken) (l .at + cellSize - l .at) (length (l .answer) - l .out) k refl, c .before .before .before .before .before .before .before .before .before .before .before .before .before .before .pre .to-step)
+    (asked _ _ _ _ _ _ _ _ _ _ _ _ _ _ (l .inv) (c .before .before .before .before .before .before .before .before .before .before .cells-test .taken) (l .at + cellSize - l .at) (length (l .answer) - l .out) k refl, c .before .before .before .before .before .before .before .before .before .before .before .before .before .before .before .before .pre .to-step)
 
--- src/walk.rt:51:20
 mul-out : tie.Need-mul-out Inv-items μ-items Inv-cells μ-cells
-mul-out c = omega (arith, c .before .before .before .before .step-cell .ensures .few, few-rows (c .before .before .before .before .before .before .before .before .before .before .before .before .before .before .before .before .before .before .before .args .request .kind))
+mul-out c = omega (arith, c .before .before .before .before .step-cell .ensures .few, few-rows (c .before .before .before .before .before .before .before .before .before .before .before .before .before .before .before .before .before .before .before .before .before .args .request .kind))
 
--- src/walk.rt:51:13
 add-out : tie.Need-add-out Inv-items μ-items Inv-cells μ-cells
 add-out c =
-    let l = c .before .before .before .before .before .before .before .before .before .before .before .before .before .before .cells in
-    omega (arith, c .before .before .before .before .step-cell .ensures .few, l .inv .place, few-here _ _ _ _ _ _ _ _ _ _ _ _ _ _ _ (l .inv) (c .before .before .before .before .before .before .before .before .before .before .before .before .before .cells-test .taken))
+    let l = c .before .before .before .before .before .before .before .before .before .before .before .before .before .before .before .before .cells in
+    omega (arith, c .before .before .before .before .step-cell .ensures .few, l .inv .place, few-here _ _ _ _ _ _ _ _ _ _ _ _ _ _ _ (l .inv) (c .before .before .before .before .before .before .before .before .before .before .before .before .before .before .before .cells-test .taken))
 
--- src/walk.rt:52:13
 add-rows : tie.Need-add-rows Inv-items μ-items Inv-cells μ-cells
 add-rows c =
-    let l = c .before .before .before .before .before .before .before .before .before .before .before .before .before .before .cells in
-    omega (arith, c .before .before .before .before .step-cell .ensures .few, few-here _ _ _ _ _ _ _ _ _ _ _ _ _ _ _ (l .inv) (c .before .before .before .before .before .before .before .before .before .before .before .before .before .cells-test .taken))
+    let l = c .before .before .before .before .before .before .before .before .before .before .before .before .before .before .before .before .cells in
+    omega (arith, c .before .before .before .before .step-cell .ensures .few, few-here _ _ _ _ _ _ _ _ _ _ _ _ _ _ _ (l .inv) (c .before .before .before .before .before .before .before .before .before .before .before .before .before .before .before .cells-test .taken))
 
--- src/walk.rt:33:5
 cells-less : tie.Need-cells-less Inv-items μ-items Inv-cells μ-cells
 cells-less c = omega arith
 
--- src/walk.rt:33:5
 cells-again : tie.Need-cells-again Inv-items μ-items Inv-cells μ-cells
 cells-again c =
-    let l = c .before .before .before .before .before .before .before .before .before .before .before .before .before .before .cells in
+    let l = c .before .before .before .before .before .before .before .before .before .before .before .before .before .before .before .before .cells in
     let s = c .before .before .before .before .step-cell in
     let k : l .at + cellSize - l .at ≡ cellSize = omega arith in
-    stepped _ _ _ _ _ _ _ _ _ _ _ _ _ _ (l .inv) (c .before .before .before .before .before .before .before .before .before .before .before .before .before .cells-test .taken) (found (c .before .before .before .before .before .before .before .before) ∙ c .before .before .before .before .before .before .before .if2 .taken) (l .at + cellSize - l .at) (length (l .answer) - l .out) k refl
+    stepped _ _ _ _ _ _ _ _ _ _ _ _ _ _ (l .inv) (c .before .before .before .before .before .before .before .before .before .before .before .before .before .before .before .cells-test .taken) (found (c .before .before .before .before .before .before .before .before) ∙ c .before .before .before .before .before .before .before .if2 .taken) (l .at + cellSize - l .at) (length (l .answer) - l .out) k refl
     (s .last .0) (s .last .1 .1 .1 .0) (s .result) (s .ensures) (s .kept .0)
 
--- src/walk.rt:33:5
 cells-less-2 : tie.Need-cells-less-2 Inv-items μ-items Inv-cells μ-cells
 cells-less-2 c = omega arith
 
--- src/walk.rt:33:5
 cells-again-2 : tie.Need-cells-again-2 Inv-items μ-items Inv-cells μ-cells
 cells-again-2 c =
-    let l = c .before .before .before .before .before .before .before .cells in
-    passed _ _ _ _ _ _ _ _ _ _ _ _ _ _ (l .inv) (c .before .before .before .before .before .before .cells-test .taken) (found (c .before) ∙ c .if2 .left)
+    let l = c .before .before .before .before .before .before .before .before .before .cells in
+    passed _ _ _ _ _ _ _ _ _ _ _ _ _ _ (l .inv) (c .before .before .before .before .before .before .before .before .cells-test .taken) (found (c .before) ∙ c .if2 .left)
 
--- src/walk.rt:16:1
 same-length : tie.Need-same-length Inv-items μ-items Inv-cells μ-cells
 same-length c = c .before .cells .inv .same-t
 
--- src/walk.rt:16:1
 same-length-2 : tie.Need-same-length-2 Inv-items μ-items Inv-cells μ-cells
 same-length-2 c = c .before .cells .inv .same-a
 
--- src/walk.rt:16:1
 returns : tie.Need-returns Inv-items μ-items Inv-cells μ-cells
 returns c =
     let l = c .before .cells in
@@ -255,13 +219,15 @@ walk-spec =
     part-naming-of-start
     part-naming-of-end
     naming-of-requires
+    to-search-requires
     items-holds
-    get64-requires
-    named-requires
+    among-four-requires
+    mul-from
     add-from
     sub-todo
     items-less
     items-again
+    reached-at-last-requires
     sub-step-cell
     part-step-cell-start
     part-step-cell-end
