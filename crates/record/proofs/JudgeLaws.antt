@@ -57,22 +57,27 @@ within-each : (q : Request) (items : List ℕ) → withinLimits q items ≡ with
 unfolding withinLimits every
 within-each q items = simp and-true
 
--- of a request with n items, whose limits `small` tells
-module _ (q : Request) (items : List ℕ) {n : ℕ} (e : length items ≡ n) {small : Bool} (s : every (λ x. ltb x (itemEnd (q .area))) items ≡ small) {kind area : Bool} (k : kind ≡ kindAllows q) (a : area ≡ areaFits q n) where
+-- of a request with n items
+module _ (q : Request) (items : List ℕ) {n : ℕ} (e : length items ≡ n) {kind area : Bool} (k : kind ≡ kindAllows q) (a : area ≡ areaFits q n) where
   pub fields-refused : not (kind && area) ≡ true → Refused RecordFields ≡ requestVerdict q items
   unfolding requestVerdict
   fields-refused t = rw (e, ← k, ← a, not-true (kind && area) t)
 
   module _ (fields : not (kind && area) ≡ false) {text : Bool} (w : text ≡ withinLimits q []) where
-    pub limits-refused : not (text && small) ≡ true → Refused RecordLimits ≡ requestVerdict q items
+    pub text-refused : not text ≡ true → Refused RecordLimits ≡ requestVerdict q items
     unfolding requestVerdict
-    limits-refused t = rw (e, ← k, ← a, not-false (kind && area) fields, within-each q items, ← w, s, not-true (text && small) t)
+    text-refused t = rw (e, ← k, ← a, not-false (kind && area) fields, within-each q items, ← w, not-true text t)
 
-    module _ (limits : not (text && small) ≡ false) {nothing : Bool} (z : nothing ≡ cancelsNothing q) where
-      pub cancel-refused : nothing ≡ true → Refused CancelsNothing ≡ requestVerdict q items
+    module _ (within : not text ≡ false) {small : Bool} (s : small ≡ every (λ x. ltb x (itemEnd (q .area))) items) where
+      pub items-refused : not small ≡ true → Refused RecordLimits ≡ requestVerdict q items
       unfolding requestVerdict
-      cancel-refused t = rw (e, ← k, ← a, not-false (kind && area) fields, within-each q items, ← w, s, not-false (text && small) limits, ← z, t)
+      items-refused t = rw (e, ← k, ← a, not-false (kind && area) fields, within-each q items, ← w, not-false text within, ← s, not-true small t)
 
-      pub request-allowed : nothing ≡ false → Accepted ≡ requestVerdict q items
-      unfolding requestVerdict
-      request-allowed t = rw (e, ← k, ← a, not-false (kind && area) fields, within-each q items, ← w, s, not-false (text && small) limits, ← z, t)
+      module _ (below : not small ≡ false) {nothing : Bool} (z : nothing ≡ cancelsNothing q) where
+        pub cancel-refused : nothing ≡ true → Refused CancelsNothing ≡ requestVerdict q items
+        unfolding requestVerdict
+        cancel-refused t = rw (e, ← k, ← a, not-false (kind && area) fields, within-each q items, ← w, not-false text within, ← s, not-false small below, ← z, t)
+
+        pub request-allowed : nothing ≡ false → Accepted ≡ requestVerdict q items
+        unfolding requestVerdict
+        request-allowed t = rw (e, ← k, ← a, not-false (kind && area) fields, within-each q items, ← w, not-false text within, ← s, not-false small below, ← z, t)

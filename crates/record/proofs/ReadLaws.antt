@@ -1,17 +1,18 @@
 -- What the reader finds in bytes is what the rules say of them: fields at their offsets, items one after the other, and the order of 3 to 7.
 -- By the law of fields, by one item at a time, and by the tests that decide.
-use mathlib.Core.Path.{_≡_, sym, _∙_}
-use mathlib.Core.Bool.{Bool, true, false, not, _&&_}
-use mathlib.Core.List.{List}
+use mathlib.Core.Path.{_≡_, refl, sym, _∙_}
+use mathlib.Core.Bool.{Bool, true, false, cond, not, _&&_, _||_, and-assoc, and-true}
+use mathlib.Core.List.{List, [], _∷_, map}
 use Prim.Native.Nat.{ℕ, _+_, _*_, _≤_, _<_}
 use lib.Dec.{eqb, leb}
-use lib.ListN.{length, getD}
+use lib.ListN.{length, drop, getD, length-map}
+use Rattle.octets.proofs.RunsLaws.{length-pieces}
 use borrow.Author.Tests.{leb-true, le-leb, lt-leb, eq-eqb, ne-eqb, not-true, not-false}
-use Rattle.octets.specs.Runs.{gets}
+use Rattle.octets.specs.Runs.{gets, pieces}
 use Rattle.octets.specs.Numbers.{be}
 use Rattle.octets.specs.Fields.{offset}
 use Rattle.rules.specs.Layout.{field, recordFields, recordSize, itemSize, recordMark, recordVersion, mostItems}
-use Rattle.rules.specs.Record.{requestOf, itemsOf, itemCount, zeroByte, recordMarked}
+use Rattle.rules.specs.Record.{identifierToSib, notified, requestOf, itemsOf, itemCount, zeroByte, recordMarked}
 use Rattle.rules.specs.Refusals.{requestVerdict, recordVerdict}
 use Rattle.rules.specs.Applied.{readBy, reading, readOf}
 use Rattle.rules.specs.declared.Request.{Request}
@@ -23,12 +24,62 @@ use Rattle.rules.specs.declared.Verdict.the-variants.{Accepted, Refused}
 use Rattle.rules.proofs.ListsLaws.{both}
 use Rattle.rules.proofs.LayoutLaws.{record-size}
 use Rattle.rules.proofs.FieldLaws.{field-at}
+use Rattle.rules.proofs.ZerosLaws.{be-zero, zeros-run}
+use Rattle.rules.specs.Lists.{every, zeros}
+use Rattle.record.proofs.JudgeLaws.{zeros-none, zeros-more, zeros-unless}
 use Rattle.rules.proofs.RecordTrips.{record-accepted}
 
 -- ---- fields
 
 pub record-field : (r : List ℕ) → recordSize ≤ length r → (k : ℕ) → field recordFields k r ≡ be (gets r (offset recordFields k) (getD recordFields k 0))
 record-field r h = field-at recordFields r (rw record-size h)
+
+-- the first n items
+abbrev pub read-items : List ℕ → ℕ → List ℕ
+read-items r n = map be (pieces itemSize n (drop recordSize r))
+
+pub read-length : (r : List ℕ) (n : ℕ) → length (read-items r n) ≡ n
+read-length r n = length-map (pieces itemSize n (drop recordSize r)) be ∙ length-pieces itemSize n (drop recordSize r)
+
+-- ---- fields that are zero, several in one read
+
+-- a run is zero where both its parts are
+two-zero : (m n : ℕ) (l : List ℕ) (i j : ℕ) → j ≡ i + m → eqb (be (gets l i (m + n))) 0 ≡ eqb (be (gets l i m)) 0 && eqb (be (gets l j n)) 0
+two-zero m n l i j e = simp be-zero (sym (zeros-run m n l i j e))
+
+-- two runs that share a part
+shared-zero : (a b c : Bool) → (a && b) && (b && c) ≡ (a && b) && c
+shared-zero true true c = refl
+shared-zero true false c = refl
+shared-zero false b c = refl
+
+six-zero : (a b c d e f : ℕ) → eqb a 0 && eqb b 0 && eqb c 0 && eqb d 0 && eqb e 0 && eqb f 0 ≡ zeros (a ∷ b ∷ c ∷ d ∷ e ∷ f ∷ [])
+unfolding zeros every
+six-zero a b c d e f = simp (and-assoc, and-true)
+
+wide-zero : (r : List ℕ) → eqb (be (gets r 8 8)) 0 && eqb (be (gets r 15 8)) 0
+    ≡ eqb (be (gets r 8 2)) 0 && eqb (be (gets r 10 2)) 0 && eqb (be (gets r 12 4)) 0 && eqb (be (gets r 16 4)) 0 && eqb (be (gets r 20 2)) 0 && eqb (be (gets r 22 1)) 0
+wide-zero r =
+    let parts : zeros (gets r 8 8) && zeros (gets r 15 8) ≡ zeros (gets r 8 15) =
+    rw (← zeros-run 7 1 r 8 15 refl, ← zeros-run 1 7 r 15 16 refl)
+    (shared-zero (zeros (gets r 8 7)) (zeros (gets r 15 1)) (zeros (gets r 16 7)) ∙ rw (zeros-run 7 1 r 8 15 refl, zeros-run 8 7 r 8 16 refl)) in
+    simp be-zero (parts ∙ sym (rw (zeros-run 2 2 r 8 10 refl, zeros-run 4 4 r 8 12 refl, zeros-run 8 4 r 8 16 refl, zeros-run 12 2 r 8 20 refl, zeros-run 14 1 r 8 22 refl)))
+
+module _ (r : List ℕ) (h : recordSize ≤ length r) where
+  -- from the identifier to the SIB kind
+  pub text-zeros : eqb (be (gets r 8 8)) 0 && eqb (be (gets r 15 8)) 0 ≡ zeros (identifierToSib (requestOf r))
+  unfolding requestOf offset
+  text-zeros =
+      let f = record-field r h in
+      wide-zero r ∙ six-zero (be (gets r 8 2)) (be (gets r 10 2)) (be (gets r 12 4)) (be (gets r 16 4)) (be (gets r 20 2)) (be (gets r 22 1)) ∙ rw (f 5, f 6, f 7, f 8, f 9, f 10)
+
+  -- those of a cancel; `named` says that flag 4 is there
+  pub cancelled-zeros : {named : Bool} → named ≡ notified (requestOf r) → eqb (be (gets r 12 8)) 0 && eqb (be (gets r 22 1)) 0 && (named || eqb (be (gets r 8 4)) 0)
+      ≡ zeros (requestOf r .content ∷ requestOf r .period .0 ∷ requestOf r .sib ∷ cond (notified (requestOf r)) [] (requestOf r .identifier ∷ requestOf r .serial ∷ []))
+  unfolding requestOf offset
+  cancelled-zeros e =
+      let f = record-field r h in
+      rw (← e, f 5, f 6, f 7, f 8, f 10, two-zero 4 4 r 12 16 refl, two-zero 2 2 r 8 10 refl) (simp (zeros-more, zeros-unless, zeros-none, and-assoc, and-true))
 
 -- ---- 3 to 7 in their order
 

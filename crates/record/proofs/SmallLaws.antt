@@ -47,6 +47,11 @@ all-small area xs = go (eqb area cellArea) (eqb area trackingArea)
     go false true = joined-small 48 0 xs
     go false false = joined-small 24 0 xs
 
+pub none-large : (f : ℕ → Bool) (xs : List ℕ) → length xs ≡ 0 → true ≡ every f xs
+unfolding every
+none-large f [] e = refl
+none-large f (x ∷ xs) e = absurd (omega arith)
+
 -- ---- met one by one
 
 pub joined-more : (a : ℕ) (xs : List ℕ) (k : ℕ) → k < length xs → joined a (drop k xs) ≡ joined (bitOr a (getD xs k 0)) (drop (k + 1) xs)

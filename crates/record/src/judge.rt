@@ -1,16 +1,10 @@
-// The tests 5, 6 and 7 of a request, the same for one that is read and one that is to be written: document 01, "The request record".
+// The tests 5, 6 and 7 of a request's fields: document 01, "The request record". The reader asks some of them of the bytes, several fields at once.
 ghost use mathlib.Core.Path.{_≡_};
 ghost use mathlib.Core.Bool.{cond};
-ghost use mathlib.Core.List.{List, [], _∷_};
-ghost use Prim.Native.Nat.{ℕ};
-ghost use lib.Dec.{ltb};
-ghost use lib.ListN.{length};
-ghost use Rattle.rules.specs.Lists.{every, zeros, oneOf};
+ghost use mathlib.Core.List.{[], _∷_};
+ghost use Rattle.rules.specs.Lists.{zeros, oneOf};
 ghost use Rattle.rules.specs.Record.{notified, identifierToSib, kindAllows, areaFits, itemEnd, withinLimits, cancelsNothing};
-ghost use Rattle.rules.specs.Refusals.{requestVerdict};
-use rules::Refusal;
 use rules::Request;
-use rules::Verdict;
 use rules::kind::CANCEL_ALL;
 use rules::kind::CANCEL_OR_KILL;
 use rules::kind::CELLS;
@@ -32,7 +26,7 @@ use rules::layout::TRACKING_END;
 
 // ---- 5: flags, areas and zero fields by kind
 
-fn any_area(area: u8) -> bool
+pub fn any_area(area: u8) -> bool
     ensures { λ r. ⌜ r ≡ oneOf area (0 ∷ 1 ∷ 2 ∷ 3 ∷ []) ⌝ }
 {
     area <= EMERGENCY_AREAS
@@ -51,13 +45,13 @@ fn no_text(request: Request) -> bool
 }
 
 // Flag 4.
-fn names_text(request: Request) -> bool
+pub fn names_text(request: Request) -> bool
     ensures { λ r. ⌜ r ≡ notified request ⌝ }
 {
     request.flags / NOTIFIED % 2 == 1
 }
 
-fn cancel_flags(flags: u8) -> bool
+pub fn cancel_flags(flags: u8) -> bool
     ensures { λ r. ⌜ r ≡ oneOf flags (0 ∷ 2 ∷ 4 ∷ 6 ∷ []) ⌝ }
 {
     (flags == 0) | (flags == CANCEL_ALL) | (flags == NOTIFIED) | (flags == CANCEL_ALL + NOTIFIED)
@@ -73,7 +67,7 @@ fn cancel_zeros(request: Request) -> bool
 }
 
 // The table of kinds: "Flags allowed", "Areas", "Fields that are zero".
-fn kind_allows(request: Request) -> bool
+pub fn kind_allows(request: Request) -> bool
     ensures { λ r. ⌜ r ≡ kindAllows request ⌝ }
 {
     let flags = request.flags;
@@ -94,7 +88,7 @@ fn kind_allows(request: Request) -> bool
 }
 
 // "Area 0 exactly when n = 0."
-fn area_fits(request: Request, n: usize) -> bool
+pub fn area_fits(request: Request, n: usize) -> bool
     ensures { λ r. ⌜ r ≡ areaFits request n ⌝ }
 {
     if request.area == NO_AREA {
@@ -119,38 +113,20 @@ pub fn item_end(area: u8) -> u64
 }
 
 // The limits of a Write-Replace: those of a request without items.
-fn text_within(request: Request) -> bool
+pub fn text_within(request: Request) -> bool
     ensures { λ r. ⌜ r ≡ withinLimits request [] ⌝ }
 {
-    (request.kind != WRITE_REPLACE)
-        | ((request.period.0 <= LONGEST_PERIOD)
-            & (FIRST_SIB <= request.sib)
-            & (request.sib <= LAST_SIB))
+    if request.kind != WRITE_REPLACE {
+        return true;
+    }
+    (request.period.0 <= LONGEST_PERIOD) & (FIRST_SIB <= request.sib) & (request.sib <= LAST_SIB)
 }
 
 // ---- 7
 
 // "Cancel with neither flag 2 nor flag 4"
-fn cancels_nothing(request: Request) -> bool
+pub fn cancels_nothing(request: Request) -> bool
     ensures { λ r. ⌜ r ≡ cancelsNothing request ⌝ }
 {
     (request.kind == CANCEL_OR_KILL) & !(request.flags / CANCEL_ALL % 2 == 1) & !names_text(request)
-}
-
-// ---- in their order
-
-// The verdict on a request with n items; small says that each of them is below its end.
-pub fn judged(request: Request, n: usize, small: bool) -> Verdict
-    ensures { λ r. ⌜ ((items : List ℕ) → length items ≡ n → every (λ x. ltb x (itemEnd (request .area))) items ≡ small → r ≡ requestVerdict request items) ⌝ }
-{
-    if !(kind_allows(request) & area_fits(request, n)) {
-        return Verdict::Refused(Refusal::RecordFields);
-    }
-    if !(text_within(request) & small) {
-        return Verdict::Refused(Refusal::RecordLimits);
-    }
-    if cancels_nothing(request) {
-        return Verdict::Refused(Refusal::CancelsNothing);
-    }
-    Verdict::Accepted
 }

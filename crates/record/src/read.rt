@@ -1,6 +1,7 @@
 // The reader: whether bytes are an accepted record, and what such a record says. The items stay in the record.
 ghost use mathlib.Core.Path.{_≡_};
-ghost use mathlib.Core.List.{map};
+ghost use mathlib.Core.Bool.{cond};
+ghost use mathlib.Core.List.{map, [], _∷_};
 ghost use Prim.Native.Nat.{_+_, _*_, _≤_};
 ghost use lib.Dec.{ltb};
 ghost use lib.ListN.{length, drop};
@@ -8,11 +9,16 @@ ghost use Rattle.octets.specs.Numbers.{be};
 ghost use Rattle.octets.specs.Runs.{pieces};
 ghost use Rattle.rules.specs.Applied.{itemAt, readBy, readOf};
 ghost use Rattle.rules.specs.Layout.{itemSize, recordSize};
-ghost use Rattle.rules.specs.Lists.{every};
-ghost use Rattle.rules.specs.Record.{itemCount, itemEnd, requestOf};
-ghost use Rattle.rules.specs.Refusals.{recordVerdict};
+ghost use Rattle.rules.specs.Lists.{every, zeros};
+ghost use Rattle.rules.specs.Record.{identifierToSib, itemCount, itemEnd, kindAllows, notified, requestOf};
+ghost use Rattle.rules.specs.Refusals.{recordVerdict, requestVerdict};
+use crate::judge::any_area;
+use crate::judge::area_fits;
+use crate::judge::cancel_flags;
+use crate::judge::cancels_nothing;
 use crate::judge::item_end;
-use crate::judge::judged;
+use crate::judge::names_text;
+use crate::judge::text_within;
 use crate::mark::marked;
 use octets::any64;
 use octets::get8;
@@ -25,6 +31,14 @@ use rules::Refusal;
 use rules::Request;
 use rules::Seconds;
 use rules::Verdict;
+use rules::kind::CANCEL_OR_KILL;
+use rules::kind::CELLS;
+use rules::kind::CONCURRENT;
+use rules::kind::FAILURE;
+use rules::kind::NO_AREA;
+use rules::kind::ONE_SECOND;
+use rules::kind::RESTART;
+use rules::kind::WRITE_REPLACE;
 use rules::layout::AREA_AT;
 use rules::layout::COUNT_AT;
 use rules::layout::FLAGS_AT;
@@ -71,7 +85,74 @@ fn items_small(req: &[u8], n: usize, area: u8) -> bool
     requires { ⌜ recordSize + itemSize * n ≤ length (now req) ⌝ }
     ensures { λ r. ⌜ r ≡ every (λ x. ltb x (itemEnd area)) (map be (pieces itemSize n (drop recordSize (now (req .entry))))) ⌝ }
 {
+    if n == 0 {
+        return true;
+    }
     any64(req, RECORD, n) < item_end(area)
+}
+
+// ---- 5, 6 and 7, asked of the bytes
+
+// "identifier to SIB" are zero: 15 bytes, in two reads that share one.
+fn no_text(req: &[u8]) -> bool
+    requires { ⌜ recordSize ≤ length (now req) ⌝ }
+    ensures { λ r. ⌜ r ≡ zeros (identifierToSib (requestOf (now (req .entry)))) ⌝ }
+{
+    (get64(req, IDENTIFIER_AT) == 0) & (get64(req, RECORD_SIB_AT + 1 - ITEM) == 0)
+}
+
+// The fields are zero that a cancel leaves out: content and period at once, and so identifier and serial number.
+fn cancel_zeros(req: &[u8]) -> bool
+    requires { ⌜ recordSize ≤ length (now req) ⌝ }
+    ensures { λ r. ⌜ r ≡ zeros (requestOf (now (req .entry)) .content ∷ requestOf (now (req .entry)) .period .0 ∷ requestOf (now (req .entry)) .sib ∷ cond (notified (requestOf (now (req .entry)))) [] (requestOf (now (req .entry)) .identifier ∷ requestOf (now (req .entry)) .serial ∷ [])) ⌝ }
+{
+    (get64(req, RECORD_CONTENT_AT) == 0)
+        & (get8(req, RECORD_SIB_AT) == 0)
+        & (names_text(request(req)) | (get32(req, IDENTIFIER_AT) == 0))
+}
+
+// The table of kinds.
+fn kind_allows(req: &[u8]) -> bool
+    requires { ⌜ recordSize ≤ length (now req) ⌝ }
+    ensures { λ r. ⌜ r ≡ kindAllows (requestOf (now (req .entry))) ⌝ }
+{
+    let fields = request(req);
+    let flags = fields.flags;
+    let area = fields.area;
+    if fields.kind == WRITE_REPLACE {
+        return ((flags == 0) | (flags == CONCURRENT)) & any_area(area);
+    }
+    if fields.kind == CANCEL_OR_KILL {
+        return cancel_flags(flags) & any_area(area) & cancel_zeros(req);
+    }
+    if (fields.kind == RESTART) | (fields.kind == FAILURE) {
+        return (flags == 0) & ((area == NO_AREA) | (area == CELLS)) & no_text(req);
+    }
+    if fields.kind == ONE_SECOND {
+        return (flags == 0) & (area == NO_AREA) & no_text(req);
+    }
+    false
+}
+
+// The first of the refusals 5, 6 and 7 that applies to the fields and n items.
+fn judged(req: &[u8], n: usize) -> Verdict
+    requires { ⌜ recordSize + itemSize * n ≤ length (now req) ⌝ }
+    ensures { λ r. ⌜ r ≡ requestVerdict (requestOf (now (req .entry))) (map be (pieces itemSize n (drop recordSize (now (req .entry))))) ⌝ }
+{
+    let fields = request(req);
+    if !(kind_allows(req) & area_fits(fields, n)) {
+        return Verdict::Refused(Refusal::RecordFields);
+    }
+    if !text_within(fields) {
+        return Verdict::Refused(Refusal::RecordLimits);
+    }
+    if !items_small(req, n, fields.area) {
+        return Verdict::Refused(Refusal::RecordLimits);
+    }
+    if cancels_nothing(fields) {
+        return Verdict::Refused(Refusal::CancelsNothing);
+    }
+    Verdict::Accepted
 }
 
 // The first of the refusals 3 to 7 that applies to any bytes.
@@ -91,8 +172,7 @@ pub fn verdict(req: &[u8]) -> Verdict
     if get8(req, ZERO_AT) != 0 {
         return Verdict::Refused(Refusal::RecordFields);
     }
-    let fields = request(req);
-    judged(fields, n, items_small(req, n, fields.area))
+    judged(req, n)
 }
 
 // The fields and the count of items, or why there are none.

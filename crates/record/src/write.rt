@@ -12,9 +12,12 @@ ghost use Rattle.rules.specs.Applied.{filledBy, written};
 ghost use Rattle.rules.specs.Layout.{itemSize, recordFields, recordSize};
 ghost use Rattle.rules.specs.Lists.{every};
 ghost use Rattle.rules.specs.Record.{itemEnd, requestNumbers};
-ghost use Rattle.rules.specs.Refusals.{writeVerdict};
+ghost use Rattle.rules.specs.Refusals.{requestVerdict, writeVerdict};
+use crate::judge::area_fits;
+use crate::judge::cancels_nothing;
 use crate::judge::item_end;
-use crate::judge::judged;
+use crate::judge::kind_allows;
+use crate::judge::text_within;
 use crate::mark::put_mark;
 use octets::put8;
 use octets::put16;
@@ -56,7 +59,29 @@ fn any_item(items: &[u64]) -> u64
 fn items_small(items: &[u64], area: u8) -> bool
     ensures { λ r. ⌜ r ≡ every (λ x. ltb x (itemEnd area)) (now (items .entry)) ⌝ }
 {
+    if items.len() == 0 {
+        return true;
+    }
     any_item(items) < item_end(area)
+}
+
+// The first of the refusals 5, 6 and 7 that applies.
+fn judged(request: Request, items: &[u64]) -> Verdict
+    ensures { λ r. ⌜ r ≡ requestVerdict request (now (items .entry)) ⌝ }
+{
+    if !(kind_allows(request) & area_fits(request, items.len())) {
+        return Verdict::Refused(Refusal::RecordFields);
+    }
+    if !text_within(request) {
+        return Verdict::Refused(Refusal::RecordLimits);
+    }
+    if !items_small(items, request.area) {
+        return Verdict::Refused(Refusal::RecordLimits);
+    }
+    if cancels_nothing(request) {
+        return Verdict::Refused(Refusal::CancelsNothing);
+    }
+    Verdict::Accepted
 }
 
 // The first of the refusals 4 (n only), 5, 6, 7 and 8 that applies.
@@ -67,7 +92,7 @@ fn verdict(request: Request, items: &[u64], room: usize) -> Verdict
     if MOST_ITEMS < n {
         return Verdict::Refused(Refusal::RecordLength);
     }
-    match judged(request, n, items_small(items, request.area)) {
+    match judged(request, items) {
         Verdict::Accepted => {
             if room < RECORD + ITEM * n {
                 return Verdict::Refused(Refusal::ShortBuffer);

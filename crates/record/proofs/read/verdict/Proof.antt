@@ -3,7 +3,6 @@
 use mathlib.Core.Path.{sym, _∙_}
 use Rattle.octets.specs.Fields.{offset}
 use Rattle.rules.specs.Record.{itemsOf}
-use Rattle.rules.proofs.RecordCodec.{length-itemsOf}
 use Rattle.record.proofs.ReadLaws.{record-field, mark-refused, long-enough, many-refused, length-refused, zero-refused, rest-judged}
 use borrow.Author.Needs.{needs}
 use Rattle.record.proofs.read.verdict.Statement.{statement}
@@ -45,26 +44,20 @@ returns-4 c =
     let zero = c .before .get8 .ensures ∙ sym (record-field _ (long-enough _ m (b .if1 .left)) 11) in
     zero-refused _ m (b .if1 .left) (c .before .before .before .before .count .ensures) (c .before .before .before .if2 .left) (c .before .before .if3 .left) zero (c .if4 .taken)
 
-request-requires : tie.Need-request-requires
-request-requires c κs = search needs
-
-items-small-requires : tie.Need-items-small-requires
-items-small-requires c κs = search needs
-
 judged-requires : tie.Need-judged-requires
 judged-requires c κs = search needs
 
 returns-5 : tie.Need-returns-5
 unfolding offset itemsOf
 returns-5 c =
-    let b = c .before .before .before .before .before .before .before .before in
+    let b = c .before .before .before .before .before .before in
     let m = b .before .marked .ensures in
     let r = b .before .before .before .args .req .now in
-    let n = c .before .before .before .before .before .before .before .count .ensures in
-    let zero = c .before .before .before .before .get8 .ensures ∙ sym (record-field r (long-enough r m (b .if1 .left)) 11) in
-    c .judged .ensures (itemsOf r) (length-itemsOf r ∙ sym n) (rw (c .before .items-small .ensures, n))
-    ∙ rw (c .before .before .request .ensures)
-    (rest-judged r m (b .if1 .left) n (c .before .before .before .before .before .before .if2 .left) (c .before .before .before .before .before .if3 .left) zero (c .before .before .before .if4 .left))
+    let n = c .before .before .before .before .before .count .ensures in
+    let zero = c .before .before .get8 .ensures ∙ sym (record-field r (long-enough r m (b .if1 .left)) 11) in
+    c .judged .ensures
+    ∙ rw n
+    (rest-judged r m (b .if1 .left) n (c .before .before .before .before .if2 .left) (c .before .before .before .if3 .left) zero (c .before .if4 .left))
 
 pub verdict-spec : {M : Type 1} → statement M
 verdict-spec =
@@ -79,7 +72,5 @@ verdict-spec =
     returns-3
     get8-requires
     returns-4
-    request-requires
-    items-small-requires
     judged-requires
     returns-5)

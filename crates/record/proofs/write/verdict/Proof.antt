@@ -1,6 +1,5 @@
 -- `verdict` gives the first of the refusals 4 to 8 that applies to a request and its items, or none.
 -- What each test found is put into their order, by the laws of WriteLaws; 5, 6 and 7 come from `judged`.
-use mathlib.Core.Path.{refl, sym}
 use Rattle.record.proofs.WriteLaws.{many-refused, request-refused, room-refused, writing-allowed}
 use borrow.Author.Needs.{needs}
 use Rattle.record.proofs.write.verdict.Statement.{statement}
@@ -8,9 +7,6 @@ use Rattle.record.proofs.write.verdict.Tie as tie
 
 returns : tie.Need-returns
 returns c = many-refused _ (c .before .before .args .items .now) _ (c .if1 .taken)
-
-items-small-requires : tie.Need-items-small-requires
-items-small-requires c κs = search needs
 
 judged-requires : tie.Need-judged-requires
 judged-requires c κs = search needs
@@ -27,8 +23,8 @@ add-if2 c = search needs
 returns-2 : tie.Need-returns-2
 returns-2 c =
     let j = c .before .before .before in
-    let items = j .before .before .before .before .args .items .now in
-    room-refused _ items _ (j .before .before .if1 .left) (j .judged .ensures items refl (sym (j .before .items-small .ensures))) (c .before .enum-told .given .1) (c .if2 .taken)
+    let items = j .before .before .before .args .items .now in
+    room-refused _ items _ (j .before .if1 .left) (j .judged .ensures) (c .before .enum-told .given .1) (c .if2 .taken)
 
 enum-known-refusal : tie.Need-enum-known-refusal
 enum-known-refusal c = search needs
@@ -36,21 +32,20 @@ enum-known-refusal c = search needs
 returns-3 : tie.Need-returns-3
 returns-3 c =
     let j = c .before .before .before in
-    let items = j .before .before .before .before .args .items .now in
-    writing-allowed _ items _ (j .before .before .if1 .left) (j .judged .ensures items refl (sym (j .before .items-small .ensures))) (c .before .enum-told .given .1) (c .if2 .left)
+    let items = j .before .before .before .args .items .now in
+    writing-allowed _ items _ (j .before .if1 .left) (j .judged .ensures) (c .before .enum-told .given .1) (c .if2 .left)
 
 returns-4 : tie.Need-returns-4
 returns-4 c =
     let j = c .before .before .before in
-    let items = j .before .before .before .before .args .items .now in
-    request-refused _ items _ (j .before .before .if1 .left) (j .judged .ensures items refl (sym (j .before .items-small .ensures))) (c .before .refusal .given .1)
+    let items = j .before .before .before .args .items .now in
+    request-refused _ items _ (j .before .if1 .left) (j .judged .ensures) (c .before .refusal .given .1)
 
 pub verdict-spec : {M : Type 1} → statement M
 verdict-spec =
     tie.close
     (tie.spec
     returns
-    items-small-requires
     judged-requires
     enum-told
     mul-if2
