@@ -3,8 +3,9 @@ ghost use mathlib.Core.Path.{_≡_};
 ghost use mathlib.Core.List.{[]};
 ghost use Prim.Native.Nat.{_≤_};
 ghost use lib.ListN.{length};
-ghost use Rattle.rules.specs.Layout.{headerSize};
-ghost use Rattle.rules.specs.Table.{cellCount};
+ghost use Rattle.rules.specs.Layout.{headerSize, recordSize, longestPeriod};
+ghost use Rattle.rules.specs.Table.{cellCount, placeBytes};
+ghost use Rattle.rules.specs.Record.{requestOf};
 ghost use Rattle.rules.specs.InCell.{newPlace};
 ghost use Rattle.rules.specs.Answer.{roomFor};
 ghost use Rattle.rules.specs.Refusals.{applyVerdict};
@@ -19,18 +20,22 @@ use places::place_bytes;
 use record::read::count;
 use record::read::request;
 use rules::Answer;
-use rules::Broadcasts;
-use rules::Place;
 use rules::Refusal;
 use rules::Request;
-use rules::Seconds;
 use rules::Verdict;
 use rules::kind::ONE_SECOND;
 use rules::kind::WRITE_REPLACE;
 use rules::layout::ANSWER;
 use rules::layout::CELLS_AT;
+use rules::layout::IDENTIFIER_AT;
+use rules::layout::PLACE;
 use rules::layout::PLACES;
+use rules::layout::RECORD_CONTENT_AT;
+use rules::layout::RECORD_PERIOD_AT;
+use rules::layout::RECORD_REQUESTED_AT;
+use rules::layout::RECORD_SIB_AT;
 use rules::layout::ROW;
+use rules::layout::SERIAL_AT;
 
 fn cells_of(table: &[u8]) -> usize
     requires { ⌜ headerSize ≤ length (now table) ⌝ }
@@ -67,21 +72,34 @@ fn verdict(table: &[u8], req: &[u8], room: usize) -> Verdict
     Verdict::Accepted
 }
 
-fn new_place(request: Request) -> Place
-    ensures { λ r. ⌜ r ≡ newPlace request ⌝ }
+// The bytes of the place that a Write-Replace makes, as they stand in its record: sent and wait are 0, and it is live.
+fn new_bytes(req: &[u8]) -> [u8; PLACE]
+    requires { ⌜ recordSize ≤ length (now req) ⌝ }
+    requires { ⌜ requestOf (now req) .period .0 ≤ longestPeriod ⌝ }
+    ensures { λ r. ⌜ r ≡ placeBytes (newPlace (requestOf (now (req .entry)))) ⌝ }
 {
-    let period = request.period;
-    let requested = request.requested;
-    Place {
-        identifier: request.identifier,
-        serial: request.serial,
-        content: request.content,
-        period,
-        requested,
-        sent: Broadcasts(0),
-        wait: Seconds(0),
-        sib: request.sib,
-    }
+    [
+        req[IDENTIFIER_AT],
+        req[IDENTIFIER_AT + 1],
+        req[SERIAL_AT],
+        req[SERIAL_AT + 1],
+        req[RECORD_CONTENT_AT],
+        req[RECORD_CONTENT_AT + 1],
+        req[RECORD_CONTENT_AT + 2],
+        req[RECORD_CONTENT_AT + 3],
+        req[RECORD_PERIOD_AT + 2],
+        req[RECORD_PERIOD_AT + 3],
+        req[RECORD_REQUESTED_AT],
+        req[RECORD_REQUESTED_AT + 1],
+        0,
+        0,
+        0,
+        0,
+        req[RECORD_SIB_AT],
+        1,
+        0,
+        0,
+    ]
 }
 
 // A start that the zero rules stop.
@@ -101,7 +119,7 @@ fn grant(table: &mut [u8], req: &[u8], answer: &mut [u8]) -> usize
         put_head(answer, fields, 0);
         return 0;
     }
-    let new = place_bytes(new_place(fields));
+    let new = new_bytes(req);
     let rows = walk(
         table,
         cells_of(table),

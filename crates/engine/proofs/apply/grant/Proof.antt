@@ -3,7 +3,9 @@
 use mathlib.Core.Path.{_≡_, refl, sym, ap, _∙_}
 use native.Mathlib.Omega.{arith}
 use Rattle.rules.specs.Table.{placeBytes}
-use Rattle.engine.proofs.ApplyLaws.{long-record, long-table, answer-room, idle-granted, walk-granted, to-walk, short-period, period-of, call-req, call-table}
+use Rattle.rules.specs.InCell.{newPlace}
+use Rattle.rules.specs.declared.Request.{Request}
+use Rattle.engine.proofs.ApplyLaws.{long-record, long-table, answer-room, idle-granted, walk-granted, to-walk, short-period, call-req, call-table}
 use borrow.Author.Needs.{needs}
 use Rattle.engine.proofs.apply.grant.Statement.{statement}
 use Rattle.engine.proofs.apply.grant.Tie as tie
@@ -25,39 +27,36 @@ returns c =
     let p = c .before .before .before .before .before .before .before .before .before .before in
     idle-granted (p .args .table .now) (p .args .req .now) (p .args .answer .now) (λ i. c .before .before .before .before .before .before .before .before .before .slice-known .given i .fits) (λ i. c .before .before .before .before .before .before .before .before .shared-slice-known .given i .fits) (p .pre) _ (c .before .before .before .before .before .before .request .ensures) (sym (c .before .before .before .before .before .idle .ensures) ∙ c .before .before .before .before .if1 .taken) _ (c .before .before .put-head .ensures)
 
-new-place-requires : tie.Need-new-place-requires
-new-place-requires c κs = search needs
-
-place-bytes-requires : tie.Need-place-bytes-requires
-place-bytes-requires c κs =
-    let p = c .before .before .before .before .before .before .before in
-    period-of _ _ (c .new-place .ensures) (short-period (p .args .table .now) (p .args .req .now) (p .args .answer .now) (λ i. c .before .before .before .before .before .before .slice-known .given i .fits) (λ i. c .before .before .before .before .before .shared-slice-known .given i .fits) (p .pre) _ (c .before .before .before .request .ensures))
+new-bytes-requires : tie.Need-new-bytes-requires
+new-bytes-requires c κs =
+    let p = c .before .before .before .before .before .before in
+    (long-record _ (call-req _ _ _ (p .pre)), short-period (p .args .table .now) (p .args .req .now) (p .args .answer .now) (λ i. c .before .before .before .before .before .slice-known .given i .fits) (λ i. c .before .before .before .before .shared-slice-known .given i .fits) (p .pre) _ refl)
 
 cells-of-requires : tie.Need-cells-of-requires
-cells-of-requires c κs = long-table _ (call-table _ _ _ (c .before .before .before .before .before .before .before .before .before .before .pre))
+cells-of-requires c κs = long-table _ (call-table _ _ _ (c .before .before .before .before .before .before .before .before .before .pre))
 
 count-requires : tie.Need-count-requires
-count-requires c κs = long-record _ (call-req _ _ _ (c .before .before .before .before .before .before .before .before .before .before .before .pre))
+count-requires c κs = long-record _ (call-req _ _ _ (c .before .before .before .before .before .before .before .before .before .before .pre))
 
 slice-aggregate-walk : tie.Need-slice-aggregate-walk
 slice-aggregate-walk c = search needs
 
 walk-requires : tie.Need-walk-requires
 walk-requires c κs =
-    let p = c .before .before .before .before .before .before .before .before .before .before .before .before .before .before in
+    let p = c .before .before .before .before .before .before .before .before .before .before .before .before .before in
     record {
       accepted = p .pre;
       all-cells = c .before .before .before .cells-of .ensures;
       all-items = c .before .before .count .ensures;
-      request = c .before .before .before .before .before .before .before .before .before .before .request .ensures;
-      to-step = to-walk (p .args .table .now) (p .args .req .now) (p .args .answer .now) (λ i. c .before .before .before .before .before .before .before .before .before .before .before .before .before .slice-known .given i .fits) (λ i. c .before .before .before .before .before .before .before .before .before .before .before .before .shared-slice-known .given i .fits) (p .pre) _ (c .before .before .before .before .before .before .before .before .before .before .request .ensures) (sym (c .before .before .before .before .before .before .before .before .before .idle .ensures) ∙ c .before .before .before .before .before .before .before .before .if1 .left) _ (c .before .before .before .before .before .before .place-bytes .ensures ∙ ap placeBytes (c .before .before .before .before .before .before .before .new-place .ensures));
+      request = c .before .before .before .before .before .before .before .before .before .request .ensures;
+      to-step = to-walk (p .args .table .now) (p .args .req .now) (p .args .answer .now) (λ i. c .before .before .before .before .before .before .before .before .before .before .before .before .slice-known .given i .fits) (λ i. c .before .before .before .before .before .before .before .before .before .before .before .shared-slice-known .given i .fits) (p .pre) _ (c .before .before .before .before .before .before .before .before .before .request .ensures) (sym (c .before .before .before .before .before .before .before .before .idle .ensures) ∙ c .before .before .before .before .before .before .before .if1 .left) _ (c .before .before .before .before .before .before .new-bytes .ensures ∙ ap (λ (x : Request). placeBytes (newPlace x)) (sym (c .before .before .before .before .before .before .before .before .before .request .ensures)));
     }
 
 cast-put-head : tie.Need-cast-put-head
 cast-put-head c = search needs
 
 put-head-requires-2 : tie.Need-put-head-requires-2
-put-head-requires-2 c κs = let p = c .before .before .before .before .before .before .before .before .before .before .before .before .before .before .before .before .before .before .before .before in rw (c .before .before .before .before .before .walk .kept .1 .1 .1 .1 .1 .1 .0) (answer-room (p .args .table .now) (p .args .req .now) (p .args .answer .now) (λ i. c .before .before .before .before .before .before .before .before .before .before .before .before .before .before .before .before .before .before .before .slice-known .given i .fits) (λ i. c .before .before .before .before .before .before .before .before .before .before .before .before .before .before .before .before .before .before .shared-slice-known .given i .fits) (p .pre))
+put-head-requires-2 c κs = let p = c .before .before .before .before .before .before .before .before .before .before .before .before .before .before .before .before .before .before .before in rw (c .before .before .before .before .before .walk .kept .1 .1 .1 .1 .1 .1 .0) (answer-room (p .args .table .now) (p .args .req .now) (p .args .answer .now) (λ i. c .before .before .before .before .before .before .before .before .before .before .before .before .before .before .before .before .before .before .slice-known .given i .fits) (λ i. c .before .before .before .before .before .before .before .before .before .before .before .before .before .before .before .before .before .shared-slice-known .given i .fits) (p .pre))
 
 same-length-2 : tie.Need-same-length-2
 same-length-2 c = search needs
@@ -67,8 +66,8 @@ same-length-3 c = search needs
 
 returns-2 : tie.Need-returns-2
 returns-2 c =
-    let p = c .before .before .before .before .before .before .before .before .before .before .before .before .before .before .before .before .before .before .before .before .before .before .before in
-    walk-granted (p .args .table .now) (p .args .req .now) (p .args .answer .now) (λ i. c .before .before .before .before .before .before .before .before .before .before .before .before .before .before .before .before .before .before .before .before .before .before .slice-known .given i .fits) (λ i. c .before .before .before .before .before .before .before .before .before .before .before .before .before .before .before .before .before .before .before .before .before .shared-slice-known .given i .fits) (p .pre) _ (c .before .before .before .before .before .before .before .before .before .before .before .before .before .before .before .before .before .before .before .request .ensures) _ _ _ _ (c .before .before .before .before .before .before .before .before .walk .ensures) (c .before .before .put-head2 .ensures)
+    let p = c .before .before .before .before .before .before .before .before .before .before .before .before .before .before .before .before .before .before .before .before .before .before in
+    walk-granted (p .args .table .now) (p .args .req .now) (p .args .answer .now) (λ i. c .before .before .before .before .before .before .before .before .before .before .before .before .before .before .before .before .before .before .before .before .before .slice-known .given i .fits) (λ i. c .before .before .before .before .before .before .before .before .before .before .before .before .before .before .before .before .before .before .before .before .shared-slice-known .given i .fits) (p .pre) _ (c .before .before .before .before .before .before .before .before .before .before .before .before .before .before .before .before .before .before .request .ensures) _ _ _ _ (c .before .before .before .before .before .before .before .before .walk .ensures) (c .before .before .put-head2 .ensures)
 
 pub grant-spec : {M : Type 1} → statement M
 grant-spec =
@@ -79,8 +78,7 @@ grant-spec =
     put-head-requires
     same-length
     returns
-    new-place-requires
-    place-bytes-requires
+    new-bytes-requires
     cells-of-requires
     count-requires
     slice-aggregate-walk
