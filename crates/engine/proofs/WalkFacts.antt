@@ -129,6 +129,15 @@ module _ (q : Request) (items T A : List ℕ) (R most lt la : ℕ) (t a : List �
       → GoingOn q items T A R most lt la (putMid at k t c′) (putMid out m a o′) (at + cellSize) (out + rowSize * n) (rows + n) (left - 1)
   stepped e k m ek em c′ o′ n s same = rw ek (stepped-here e m em c′ o′ n (rw ek at s) (rw ek at same))
 
+  -- the same without a row
+  pub stepped-silent : reaches (q .area) items (cellOf (take cellSize (drop at t)) .head) ≡ true → (k m : ℕ) → k ≡ cellSize → m ≡ length a - out
+      → (c′ o′ : List ℕ) (n : ℕ) → Stepped (inCell q (livePlaces (midOf at k t))) (midOf at k t) (midOf out m a) c′ o′ (rowsPerCell (q .kind)) n → length c′ ≡ length (midOf at k t)
+      → n ≤ 0 → GoingOn q items T A R most lt la (putMid at k t c′) (putMid out m a o′) (at + cellSize) out rows (left - 1)
+  stepped-silent e k m ek em c′ o′ n s same z =
+      let eo : out + rowSize * n ≡ out = omega arith in
+      let er : rows + n ≡ rows = omega arith in
+      rw (eo, er) at (stepped e k m ek em c′ o′ n s same)
+
 -- ---- the record's items
 
 pub items-span : (t : List ℕ) (cells : ℕ) (r : List ℕ) (items : ℕ) (q : Request) (new a : List ℕ) → WalkIn t cells r items q new a

@@ -51,8 +51,10 @@ pub fn walk(
         }
         if reached_at_last(reached, naming, req, from, todo) {
             let n = step_cell(&mut table[start..at], request, new, &mut answer[out..]);
-            out += ROW * n;
-            rows += n;
+            if 0 < n {
+                out += ROW * n;
+                rows += n;
+            }
         }
     }
     rows

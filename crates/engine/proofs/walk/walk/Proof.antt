@@ -19,7 +19,7 @@ use Rattle.rules.specs.Answer.{rowBytes}
 use Rattle.engine.specs.Walk.{rowsAfter, tableAfter}
 use Rattle.engine.specs.Reach.{byKeys, itemsFrom}
 use Rattle.engine.proofs.Searching.{search-hit, search-miss, search-start}
-use Rattle.engine.proofs.WalkFacts.{search-span, named-here, few-rows, GoingOn, begin, asked, passed, stepped}
+use Rattle.engine.proofs.WalkFacts.{search-span, named-here, few-rows, GoingOn, begin, asked, passed, stepped, stepped-silent}
 use Rattle.engine.proofs.Walking.{cell-long, few-here, over-table, over-count, over-answer}
 use Rattle.engine.proofs.walk.walk.Statement.{statement}
 use Rattle.engine.proofs.walk.walk.Tie as tie
@@ -157,27 +157,27 @@ step-cell-requires c κs =
     (asked _ _ _ _ _ _ _ _ _ _ _ _ _ _ (l .inv) (c .before .before .before .before .before .before .before .before .before .before .cells-test .taken) (l .at + cellSize - l .at) (length (l .answer) - l .out) k refl, c .before .before .before .before .before .before .before .before .before .before .before .before .before .before .before .before .pre .to-step)
 
 mul-out : tie.Need-mul-out Inv-items μ-items Inv-cells μ-cells
-mul-out c = omega (arith, c .before .before .before .before .step-cell .ensures .few, few-rows (c .before .before .before .before .before .before .before .before .before .before .before .before .before .before .before .before .before .before .before .before .before .args .request .kind))
+mul-out c = omega (arith, c .before .before .before .before .before .step-cell .ensures .few, few-rows (c .before .before .before .before .before .before .before .before .before .before .before .before .before .before .before .before .before .before .before .before .before .before .args .request .kind))
 
 add-out : tie.Need-add-out Inv-items μ-items Inv-cells μ-cells
 add-out c =
-    let l = c .before .before .before .before .before .before .before .before .before .before .before .before .before .before .before .before .cells in
-    omega (arith, c .before .before .before .before .step-cell .ensures .few, l .inv .place, few-here _ _ _ _ _ _ _ _ _ _ _ _ _ _ _ (l .inv) (c .before .before .before .before .before .before .before .before .before .before .before .before .before .before .before .cells-test .taken))
+    let l = c .before .before .before .before .before .before .before .before .before .before .before .before .before .before .before .before .before .cells in
+    omega (arith, c .before .before .before .before .before .step-cell .ensures .few, l .inv .place, few-here _ _ _ _ _ _ _ _ _ _ _ _ _ _ _ (l .inv) (c .before .before .before .before .before .before .before .before .before .before .before .before .before .before .before .before .cells-test .taken))
 
 add-rows : tie.Need-add-rows Inv-items μ-items Inv-cells μ-cells
 add-rows c =
-    let l = c .before .before .before .before .before .before .before .before .before .before .before .before .before .before .before .before .cells in
-    omega (arith, c .before .before .before .before .step-cell .ensures .few, few-here _ _ _ _ _ _ _ _ _ _ _ _ _ _ _ (l .inv) (c .before .before .before .before .before .before .before .before .before .before .before .before .before .before .before .cells-test .taken))
+    let l = c .before .before .before .before .before .before .before .before .before .before .before .before .before .before .before .before .before .cells in
+    omega (arith, c .before .before .before .before .before .step-cell .ensures .few, few-here _ _ _ _ _ _ _ _ _ _ _ _ _ _ _ (l .inv) (c .before .before .before .before .before .before .before .before .before .before .before .before .before .before .before .before .cells-test .taken))
 
 cells-less : tie.Need-cells-less Inv-items μ-items Inv-cells μ-cells
 cells-less c = omega arith
 
 cells-again : tie.Need-cells-again Inv-items μ-items Inv-cells μ-cells
 cells-again c =
-    let l = c .before .before .before .before .before .before .before .before .before .before .before .before .before .before .before .before .cells in
-    let s = c .before .before .before .before .step-cell in
+    let l = c .before .before .before .before .before .before .before .before .before .before .before .before .before .before .before .before .before .cells in
+    let s = c .before .before .before .before .before .step-cell in
     let k : l .at + cellSize - l .at ≡ cellSize = omega arith in
-    stepped _ _ _ _ _ _ _ _ _ _ _ _ _ _ (l .inv) (c .before .before .before .before .before .before .before .before .before .before .before .before .before .before .before .cells-test .taken) (found (c .before .before .before .before .before .before .before .before) ∙ c .before .before .before .before .before .before .before .if2 .taken) (l .at + cellSize - l .at) (length (l .answer) - l .out) k refl
+    stepped _ _ _ _ _ _ _ _ _ _ _ _ _ _ (l .inv) (c .before .before .before .before .before .before .before .before .before .before .before .before .before .before .before .before .cells-test .taken) (found (c .before .before .before .before .before .before .before .before .before) ∙ c .before .before .before .before .before .before .before .before .if2 .taken) (l .at + cellSize - l .at) (length (l .answer) - l .out) k refl
     (s .last .0) (s .last .1 .1 .1 .0) (s .result) (s .ensures) (s .kept .0)
 
 cells-less-2 : tie.Need-cells-less-2 Inv-items μ-items Inv-cells μ-cells
@@ -185,6 +185,17 @@ cells-less-2 c = omega arith
 
 cells-again-2 : tie.Need-cells-again-2 Inv-items μ-items Inv-cells μ-cells
 cells-again-2 c =
+    let l = c .before .before .before .before .before .before .before .before .before .before .before .before .before .before .before .before .before .cells in
+    let s = c .before .before .before .before .before .step-cell in
+    let k : l .at + cellSize - l .at ≡ cellSize = omega arith in
+    stepped-silent _ _ _ _ _ _ _ _ _ _ _ _ _ _ (l .inv) (c .before .before .before .before .before .before .before .before .before .before .before .before .before .before .before .before .cells-test .taken) (found (c .before .before .before .before .before .before .before .before .before) ∙ c .before .before .before .before .before .before .before .before .if2 .taken) (l .at + cellSize - l .at) (length (l .answer) - l .out) k refl
+    (s .last .0) (s .last .1 .1 .1 .0) (s .result) (s .ensures) (s .kept .0) (c .if3 .left)
+
+cells-less-3 : tie.Need-cells-less-3 Inv-items μ-items Inv-cells μ-cells
+cells-less-3 c = omega arith
+
+cells-again-3 : tie.Need-cells-again-3 Inv-items μ-items Inv-cells μ-cells
+cells-again-3 c =
     let l = c .before .before .before .before .before .before .before .before .before .cells in
     passed _ _ _ _ _ _ _ _ _ _ _ _ _ _ (l .inv) (c .before .before .before .before .before .before .before .before .cells-test .taken) (found (c .before) ∙ c .if2 .left)
 
@@ -242,6 +253,8 @@ walk-spec =
     cells-again
     cells-less-2
     cells-again-2
+    cells-less-3
+    cells-again-3
     same-length
     same-length-2
     returns)
