@@ -1,7 +1,7 @@
 -- What the builder writes is the table that `built` asks: the header field by field, then for each head a cell with no live place.
 -- Stores one behind the other are one store (`sets-run`), and a legal head's bytes are those of what it says.
 use mathlib.Core.Path.{_≡_, refl, sym, _∙_}
-use mathlib.Core.List.{List, _++_, flatMap, append-assoc, append-nil}
+use mathlib.Core.List.{List, [], _++_, flatMap, append-assoc, append-nil}
 use Prim.Native.Nat.{ℕ, _+_, _-_, _*_, _≤_, _<_}
 use native.Mathlib.Omega.{arith}
 use borrow.Rule.Slice.PartMut.{midOf, putMid}
@@ -11,22 +11,36 @@ use Rattle.octets.specs.Runs.{gets, pieces, Bytes}
 use Rattle.octets.specs.Numbers.{be, toBe}
 use Rattle.octets.specs.Fields.{bytesOf}
 use Rattle.octets.proofs.RunsLaws.{gets-eq, gets-run, length-gets, sets-run, sets-front}
-use Rattle.octets.proofs.NumbersLaws.{length-toBe, toBe-gets}
-use Rattle.rules.specs.Layout.{placesPerCell, headerSize, headSize, cellSize, tableMark, tableVersion}
+use Rattle.octets.proofs.NumbersLaws.{length-toBe, toBe-gets, toBe-join}
+use Rattle.rules.specs.Layout.{placesPerCell, mostCells, headerSize, headSize, cellSize, tableMark, tableVersion}
 use Rattle.rules.specs.Table.{headerBytes}
 use Rattle.builder.specs.Build.{emptyRun}
 use Rattle.octets.proofs.PiecesLaws.{pieces-more, pieces-none}
 
 -- ---- the header
 
-then-store : (w v : ℕ) (l vs : List ℕ) (i j : ℕ) → j ≡ i + w → sets (sets l i (toBe w v)) j vs ≡ sets l i (toBe w v ++ vs)
-then-store w v l vs i j e = sets-run (toBe w v) vs l i j (rw length-toBe e)
+behind : (a b c d e : List ℕ) → a ++ (b ++ (c ++ (d ++ (e ++ [])))) ≡ (((a ++ b) ++ c) ++ d) ++ e
+behind a b c d e = simp (append-assoc, append-nil)
 
-pub header-stored : (n : ℕ) (t : List ℕ) {a b c d e : List ℕ} → a ≡ sets t 0 (toBe 3 tableMark) → b ≡ sets a 3 (toBe 2 tableVersion) → c ≡ sets b 5 (toBe 2 n)
-    → d ≡ sets c 7 (toBe 1 placesPerCell) → e ≡ sets d 8 (toBe 8 0) → e ≡ sets t 0 (headerBytes n)
+-- two numbers of eight bytes
+header-in-two : (n : ℕ) → n ≤ mostCells
+    → headerBytes n ≡ toBe 8 (((tableMark * 65536 + tableVersion) * 65536 + n) * 256 + placesPerCell) ++ toBe 8 0
 unfolding headerBytes bytesOf
-header-stored n t p q r s u =
-    rw (u, s, r, q, p, then-store 1 placesPerCell _ (toBe 8 0) 7 8 refl, then-store 2 n _ _ 5 7 refl, then-store 2 tableVersion _ _ 3 5 refl, then-store 3 tableMark t _ 0 3 refl, append-nil)
+header-in-two n h =
+    let m = tableMark * 65536 + tableVersion in
+    behind (toBe 3 tableMark) (toBe 2 tableVersion) (toBe 2 n) (toBe 1 placesPerCell) (toBe 8 0)
+    ∙ rw (
+      toBe-join 3 2 tableMark tableVersion (omega arith) (omega arith),
+      toBe-join 5 2 m n (omega arith) (omega arith),
+      toBe-join 7 1 (m * 65536 + n) placesPerCell (omega arith) (omega arith),
+    )
+
+pub header-stored : (n : ℕ) → n ≤ mostCells → (t : List ℕ) {a b : List ℕ}
+    → a ≡ sets t 0 (toBe 8 (((tableMark * 65536 + tableVersion) * 65536 + n) * 256 + placesPerCell)) → b ≡ sets a 8 (toBe 8 0)
+    → b ≡ sets t 0 (headerBytes n)
+header-stored n h t p q =
+    rw (q, p, header-in-two n h)
+    (sets-run (toBe 8 (((tableMark * 65536 + tableVersion) * 65536 + n) * 256 + placesPerCell)) (toBe 8 0) t 0 8 (rw length-toBe refl))
 
 -- ---- a cell
 

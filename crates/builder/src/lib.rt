@@ -12,22 +12,16 @@ ghost use Rattle.rules.specs.Applied.{filledBy, built};
 ghost use Rattle.table.specs.Judge.{legalRuns};
 ghost use Rattle.builder.specs.Build.{emptyRun};
 use octets::get64;
-use octets::put8;
-use octets::put16;
-use octets::put24;
 use octets::put64;
 use rules::Answer;
 use rules::Refusal;
 use rules::layout::CELL;
-use rules::layout::CELLS_AT;
 use rules::layout::HEAD;
 use rules::layout::HEADER;
 use rules::layout::MOST_CELLS;
 use rules::layout::PLACES;
-use rules::layout::PLACES_AT;
 use rules::layout::TABLE_MARK;
 use rules::layout::TABLE_VERSION;
-use rules::layout::VERSION_AT;
 use rules::layout::ZEROS_AT;
 use table::head_legal;
 
@@ -89,14 +83,17 @@ fn heads_in_order(heads: &[u8], count: usize) -> bool
     true
 }
 
+// The eight zeros, and before them mark, version, N and the places of a cell as one number.
 fn put_header(table: &mut [u8], count: usize)
     requires { ⌜ (headerSize ≤ length (now table)) × (count ≤ mostCells) ⌝ }
     ensures { λ _. ⌜ now (table .exit) ≡ sets (now (table .entry)) 0 (headerBytes count) ⌝ }
 {
-    put24(table, 0, TABLE_MARK);
-    put16(table, VERSION_AT, TABLE_VERSION);
-    put16(table, CELLS_AT, count as u16);
-    put8(table, PLACES_AT, PLACES as u8);
+    let marked = (TABLE_MARK as u64) * 65536 + (TABLE_VERSION as u64);
+    put64(
+        table,
+        0,
+        (marked * 65536 + (count as u64)) * 256 + (PLACES as u64),
+    );
     put64(table, ZEROS_AT, 0);
 }
 
