@@ -67,6 +67,12 @@ puts-bytesOf l i (w ∷ ws) [] = refl
 puts-bytesOf l i (w ∷ ws) (v ∷ vs) =
     puts-bytesOf (sets l i (toBe w v)) (i + w) ws vs ∙ sets-run (toBe w v) (bytesOf ws vs) l i (i + w) (rw length-toBe)
 
+-- mark and version, in parts that meet within the version
+pub mark-put : (l : List ℕ) {a b : List ℕ} → a ≡ sets l 0 (toBe 4 (recordMark * 256)) → b ≡ sets a 4 (toBe 1 recordVersion)
+    → b ≡ sets l 0 (bytesOf recordFields (recordMark ∷ recordVersion ∷ []))
+unfolding toBe bytesOf
+mark-put l p q = rw (q, p) (sets-run (toBe 4 (recordMark * 256)) (toBe 1 recordVersion) l 0 4 refl)
+
 -- all fields of a record, in four runs
 pub fields-put : (q : Request) (n : ℕ) (l : List ℕ) {a b c d : List ℕ}
     → a ≡ sets l 0 (bytesOf recordFields (recordMark ∷ recordVersion ∷ []))

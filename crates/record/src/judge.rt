@@ -60,9 +60,7 @@ pub fn cancel_flags(flags: u8) -> bool
 fn cancel_zeros(request: Request) -> bool
     ensures { λ r. ⌜ r ≡ zeros (request .content ∷ request .period .0 ∷ request .sib ∷ cond (notified request) [] (request .identifier ∷ request .serial ∷ [])) ⌝ }
 {
-    (request.content == 0)
-        & (request.period.0 == 0)
-        & (request.sib == 0)
+    ((request.content | request.period.0 | (request.sib as u32)) == 0)
         & (names_text(request) | ((request.identifier == 0) & (request.serial == 0)))
 }
 

@@ -9,8 +9,8 @@ ghost use Rattle.rules.specs.Layout.{recordFields, recordMark, recordSize, reco
 ghost use Rattle.rules.specs.Record.{recordMarked};
 use octets::get8;
 use octets::get32;
-use octets::put16;
-use octets::put24;
+use octets::put8;
+use octets::put32;
 use rules::layout::RECORD;
 use rules::layout::RECORD_MARK;
 use rules::layout::RECORD_VERSION;
@@ -34,6 +34,6 @@ pub fn put_mark(buffer: &mut [u8])
     requires { ⌜ recordSize ≤ length (now buffer) ⌝ }
     ensures { λ _. ⌜ now (buffer .exit) ≡ sets (now (buffer .entry)) 0 (bytesOf recordFields (recordMark ∷ recordVersion ∷ [])) ⌝ }
 {
-    put24(buffer, MARK_AT, RECORD_MARK);
-    put16(buffer, VERSION_AT, RECORD_VERSION);
+    put32(buffer, MARK_AT, RECORD_MARK * 256);
+    put8(buffer, VERSION_AT + 1, RECORD_VERSION as u8);
 }

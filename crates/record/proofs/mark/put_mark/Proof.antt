@@ -1,26 +1,32 @@
 -- `put_mark` stores mark and version at the start of a buffer, and nothing else.
--- Field behind field is the layout's bytes: `puts-bytesOf`.
-use mathlib.Core.List.{[], _∷_}
-use Rattle.rules.specs.Layout.{recordFields, recordMark, recordVersion}
-use Rattle.record.proofs.WriteLaws.{puts, puts-bytesOf}
+-- The first byte of the version is 0 and is stored with the mark; the bytes are the layout's: `mark-put`.
 use borrow.Author.Needs.{needs}
+use Rattle.record.proofs.WriteLaws.{mark-put}
 use Rattle.record.proofs.mark.put_mark.Statement.{statement}
 use Rattle.record.proofs.mark.put_mark.Tie as tie
 
-put24-requires : tie.Need-put24-requires
-put24-requires c κs = search needs
+mul-put32 : tie.Need-mul-put32
+mul-put32 c = search needs
 
-put16-requires : tie.Need-put16-requires
-put16-requires c κs = search needs
+put32-requires : tie.Need-put32-requires
+put32-requires c κs = search needs
+
+add-put8 : tie.Need-add-put8
+add-put8 c = search needs
+
+cast-put8 : tie.Need-cast-put8
+cast-put8 c = search needs
+
+put8-requires : tie.Need-put8-requires
+put8-requires c κs = search needs
 
 same-length : tie.Need-same-length
 same-length c = search needs
 
 returns : tie.Need-returns
-unfolding puts
-returns c =
-    rw (c .before .before .put16 .ensures, c .before .before .before .before .before .before .put24 .ensures)
-    (puts-bytesOf (c .before .before .before .before .before .before .before .before .before .args .buffer .now) 0 recordFields (recordMark ∷ recordVersion ∷ []))
+returns c = mark-put (c .before .before .before .before .before .before .before .before .before .args .buffer .now) (c .before .before .before .before .before .before .put32 .ensures) (c .before .before .put8 .ensures)
 
 pub put-mark-spec : {M : Type 1} → statement M
-put-mark-spec = tie.close (tie.spec put24-requires put16-requires same-length returns)
+put-mark-spec =
+    tie.close
+    (tie.spec mul-put32 put32-requires add-put8 cast-put8 put8-requires same-length returns)
