@@ -1,8 +1,8 @@
 -- The last places of a cell written out, and what a walk over pieces lends in a turn.
 -- By `drop-drop`: where code writes places out, their pieces are written out too.
-use mathlib.Core.Path.{_≡_, refl}
+use mathlib.Core.Path.{_≡_, sym, _∙_}
 use mathlib.Core.Bool.{Bool, _&&_, and-assoc, and-true}
-use mathlib.Core.List.{List, [], _∷_}
+use mathlib.Core.List.{List}
 use Prim.Native.Nat.{ℕ, zero, suc, _+_, _*_, _-_, _≤_, _<_}
 use native.Mathlib.Nat.{mul-suc}
 use native.Mathlib.Omega.{arith}
@@ -38,6 +38,13 @@ module _ (f : List ℕ → Bool) (l : List ℕ) (i left : ℕ) (fits : i + 20 * 
       let sixty : i + 40 + 20 ≡ i + 60 = omega arith in
       rw (e, gets-eq 20 l i (omega arith), gets-eq 20 l (i + 20) (omega arith), gets-eq 20 l (i + 40) (omega arith), gets-eq 20 l (i + 60) (omega arith))
       (simp (drop-drop, forty, sixty, and-true, and-assoc))
+
+  -- four of them, asked two by two
+  pub every-pairs : left ≡ 4 → {x y : Bool} → x ≡ f (gets l i 20) && f (gets l (i + 20) 20) → y ≡ f (gets l (i + 40) 20) && f (gets l (i + 40 + 20) 20)
+      → x && y ≡ every f (pieces 20 left (drop i l))
+  every-pairs e p q =
+      let sixty : i + 40 + 20 ≡ i + 60 = omega arith in
+      rw (p, q, sixty) (sym (and-assoc (f (gets l i 20) && f (gets l (i + 20) 20)) (f (gets l (i + 40) 20)) (f (gets l (i + 60) 20))) ∙ every-4 e)
 
 -- ---- what is lent
 

@@ -31,6 +31,17 @@ free-wide l i =
     simp be-zero
     (rw (zeros-run 4 4 l i (i + 4) refl, zeros-run 8 4 l i (i + 8) refl, zeros-run 12 4 l i (i + 12) refl, zeros-run 16 4 l i (i + 16) refl))
 
+abbrev long : List ℕ → ℕ → ℕ
+long l i = be (gets l i 8)
+
+pub two-wide : (l : List ℕ) (i : ℕ)
+    → eqb (long l i) 0 && eqb (long l (i + 8)) 0 && eqb (long l (i + 16)) 0 && eqb (long l (i + 24)) 0 && eqb (long l (i + 32)) 0
+    ≡ isFree (gets l i 20) && isFree (gets l (i + 20) 20)
+unfolding isFree
+two-wide l i =
+    simp be-zero
+    (rw (zeros-run 8 8 l i (i + 8) refl, zeros-run 16 8 l i (i + 16) refl, zeros-run 24 8 l i (i + 24) refl, zeros-run 32 8 l i (i + 32) refl, zeros-run 20 20 l i (i + 20) refl))
+
 -- ---- the emergency areas, by their number
 
 abbrev area : List ℕ → ℕ → ℕ

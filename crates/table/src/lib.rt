@@ -1,5 +1,6 @@
 // The judge of a table: each rule of document 01, "The table", is tested where the bytes stand, in one pass.
 ghost use mathlib.Core.Path.{_≡_};
+ghost use mathlib.Core.Bool.{_&&_};
 ghost use Prim.Native.Nat.{_+_, _*_, _≤_};
 ghost use lib.ListN.{length, drop};
 ghost use Rattle.octets.specs.Numbers.{be};
@@ -228,10 +229,19 @@ fn all_free(places: &[u8], at: usize, left: usize) -> bool
             & place_free(places, at + PLACE)
             & place_free(places, at + 2 * PLACE);
     }
-    place_free(places, at)
-        & place_free(places, at + PLACE)
-        & place_free(places, at + 2 * PLACE)
-        & place_free(places, at + 3 * PLACE)
+    two_free(places, at) & two_free(places, at + 2 * PLACE)
+}
+
+// All 40 bytes of two places are zero: reads of twice the width, for the cells that have no live place.
+fn two_free(places: &[u8], at: usize) -> bool
+    requires { ⌜ at + placeSize * 2 ≤ length (now places) ⌝ }
+    ensures { λ r. ⌜ r ≡ isFree (gets (now (places .entry)) at placeSize) && isFree (gets (now (places .entry)) (at + placeSize) placeSize) ⌝ }
+{
+    (get64(places, at) == 0)
+        & (get64(places, at + 2 * WORD) == 0)
+        & (get64(places, at + 4 * WORD) == 0)
+        & (get64(places, at + 6 * WORD) == 0)
+        & (get64(places, at + 8 * WORD) == 0)
 }
 
 // All 20 bytes are zero. One width: the compiler makes one test of these, also of several places.
