@@ -1,5 +1,5 @@
 -- What happens in a cell, by the request's kind: the routine that is called does what `inCell` says, within the rows that the kind may have.
--- Each kind but a second has one row at most; of the known kinds only a second is left at the end.
+-- Each kind but a second has one row at most; of the known kinds but a second only a failure is left at the end.
 use mathlib.Core.Path.{_≡_, refl, ap, _∙_}
 use mathlib.Core.List.{List}
 use Prim.Native.Nat.{ℕ}
@@ -23,9 +23,9 @@ stepped-by q ps d m c out c′ out′ n e em s = rw (e, em) s
 pub rows-of-kind : (k j m : ℕ) → k ≡ j → rowsPerCell j ≡ m → rowsPerCell k ≡ m
 rows-of-kind k j m e em = ap rowsPerCell e ∙ em
 
-pub is-second : (k : ℕ) → (k ≡ writeReplace → ⊥) → (k ≡ cancelOrKill → ⊥) → (k ≡ restartKind → ⊥) → (k ≡ failureKind → ⊥) → KnownKind k → k ≡ oneSecond
-is-second k a b c d (starts e) = absurd (a e)
-is-second k a b c d (cancels e) = absurd (b e)
-is-second k a b c d (restarts e) = absurd (c e)
-is-second k a b c d (fails e) = absurd (d e)
-is-second k a b c d (passes e) = e
+pub is-failure : (k : ℕ) → (k ≡ writeReplace → ⊥) → (k ≡ cancelOrKill → ⊥) → (k ≡ restartKind → ⊥) → (k ≡ oneSecond → ⊥) → KnownKind k → k ≡ failureKind
+is-failure k a b c d (starts e) = absurd (a e)
+is-failure k a b c d (cancels e) = absurd (b e)
+is-failure k a b c d (restarts e) = absurd (c e)
+is-failure k a b c d (fails e) = e
+is-failure k a b c d (passes e) = absurd (d e)

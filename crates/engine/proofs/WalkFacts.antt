@@ -1,26 +1,31 @@
 -- The walk's two loops in document 01's words: the search among the items, and a cell that is reached or not.
 -- What a search has still to look through decides; a reached cell's routine leaves the bytes that the rule gives.
 use mathlib.Core.Path.{_≡_, refl, sym, ap, _∙_}
-use mathlib.Core.Bool.{Bool, true, false, cond}
-use mathlib.Core.List.{List, [], flatMap}
+use mathlib.Core.Bool.{Bool, true, false, cond, _&&_, false≢true}
+use mathlib.Core.List.{List, [], _∷_, flatMap}
 use Prim.Native.Nat.{ℕ, _+_, _*_, _-_, _<_, _≤_}
 use native.Mathlib.Nat.{mul-assoc, mul-le-mul, zero-add}
 use native.Mathlib.Omega.{arith}
 use borrow.Rule.Slice.PartMut.{putMid, midOf}
+use borrow.Author.Tests.{eqb-true}
 use lib.Dec.{eqb}
 use lib.ListN.{length, take, drop, length-drop, length-map}
 use lib.Seq.{sets, length-take-le}
 use Rattle.octets.specs.Runs.{Bytes}
 use Rattle.octets.proofs.RunsLaws.{bytes-drop}
+use Rattle.rules.specs.Lists.{any, oneOf, zeros}
 use Rattle.rules.specs.Layout.{headerSize, headSize, cellSize, recordSize, itemSize, answerSize, rowSize, placesPerCell, mostCells}
-use Rattle.rules.specs.Table.{headOf, cellOf, legalCell, cellRuns}
-use Rattle.rules.specs.Record.{noArea, oneSecond, requestOf, itemsOf}
+use Rattle.rules.specs.Table.{headOf, cellOf, legalCell, cellCount, cellRuns}
+use Rattle.rules.specs.Record.{noArea, oneSecond, requestOf, itemsOf, identifierToSib, row, kindAllows}
 use Rattle.rules.specs.Reach.{names, reaches}
 use Rattle.rules.specs.InCell.{inCell}
 use Rattle.rules.specs.Answer.{rowBytes, rowsPerCell, roomFor}
+use Rattle.rules.specs.Refusals.{applyVerdict}
 use Rattle.rules.specs.Applied.{cellAfter, rowOf, cellRows}
 use Rattle.rules.specs.declared.Request.{Request}
-use Rattle.rules.proofs.ListsLaws.{cond-either}
+use Rattle.rules.specs.declared.Verdict.the-variants.{Accepted}
+use Rattle.rules.proofs.ListsLaws.{both, cond-either, by-test}
+use Rattle.rules.proofs.VerdictLaws.{request-accepted}
 use Rattle.rules.proofs.CellCodec.{legal-cell}
 use Rattle.rules.proofs.TableCodec.{table-accepted}
 use Rattle.rules.proofs.StepLaws.{step-reached, rows-reached, rows-unreached}
@@ -31,7 +36,7 @@ use Rattle.cell.proofs.PlacesLaws.{withPlaces-cell}
 use Rattle.engine.specs.Step.{rowsBytes, Ready, Stepped}
 use Rattle.engine.specs.Reach.{namedBy}
 use Rattle.engine.specs.declared.reach.Naming.{Naming}
-use Rattle.engine.specs.Walk.{rowsAfter, tableAfter, WalkIn}
+use Rattle.engine.specs.Walk.{rowsAfter, tableAfter, WalkIn, SecondIn}
 use Rattle.engine.proofs.Walking.{Going, cell-long, cell-bytes, cell-legal, room-here, skip, step-cell}
 
 -- ---- a cell, by whether it is reached
@@ -64,16 +69,15 @@ GoingOn q items = Going (cellAfter q items) (λ c. cellRows q items (cellOf c)) 
 pub few-rows : (kind : ℕ) → rowsPerCell kind ≤ placesPerCell
 few-rows kind = cond-either (λ n. n ≤ placesPerCell) (eqb kind oneSecond) placesPerCell 1 (λ _. omega arith) (λ _. omega arith)
 
-module _ (t : List ℕ) (cells : ℕ) (r : List ℕ) (items : ℕ) (q : Request) (new a : List ℕ) (bytes : Bytes t) (w : WalkIn t cells r items q new a) where
+module _ (t : List ℕ) (cells : ℕ) (r : List ℕ) (q : Request) (a : List ℕ) (bytes : Bytes t) (accepted : applyVerdict t r (length a) ≡ Accepted) (n : cells ≡ cellCount t) (request : q ≡ requestOf r) where
   pub begin : GoingOn q (itemsOf r) (tableAfter q (itemsOf r) t (cellRuns t)) (sets a answerSize (flatMap rowBytes (rowsAfter q (itemsOf r) (cellRuns t))))
       (length (rowsAfter q (itemsOf r) (cellRuns t))) (placesPerCell * mostCells) (length t) (length a) t a headerSize answerSize 0 cells
   unfolding tableAfter rowsAfter roomFor
   begin =
-      let call = call-accepted t r (length a) (w .accepted) in
+      let call = call-accepted t r (length a) accepted in
       let legal = table-accepted t (call .table) in
-      let n = w .all-cells in
       let k = rowsPerCell (q .kind) in
-      let kind : rowsPerCell (requestOf r .kind) ≡ k = ap (λ (x : Request). rowsPerCell (x .kind)) (sym (w .request)) in
+      let kind : rowsPerCell (requestOf r .kind) ≡ k = ap (λ (x : Request). rowsPerCell (x .kind)) (sym request) in
       let room : answerSize + rowSize * k * cells ≤ length a = rw (n, ← kind) (call .enough) in
       let fewer : cells ≤ mostCells = rw n (legal .few) in
       let most : k * cells ≤ placesPerCell * mostCells = mul-le-mul (few-rows (q .kind)) fewer in
@@ -158,3 +162,25 @@ pub named-here : (t : List ℕ) (at k area : ℕ) (s : Naming) → k ≡ cellSiz
     → (x : ℕ) → eqb area noArea ≡ false → namedBy s x ≡ names area (cellOf (take cellSize (drop at t)) .head) x
 unfolding cellOf
 named-here t at k area s ek h x e = h x ∙ rw (e, ek)
+
+-- ---- a second
+
+row-area : (q : Request) (flags areas zero : List ℕ) → row q flags areas zero ≡ true → oneOf (q .area) areas ≡ true
+unfolding row
+row-area q flags areas zero e =
+    both (oneOf (q .flags) flags) (oneOf (q .area) areas) (both (oneOf (q .flags) flags && oneOf (q .area) areas) (zeros zero) e .0) .1
+
+-- the table of kinds allows a second area 0 only
+second-area : (q : Request) → kindAllows q ≡ true → q .kind ≡ oneSecond → q .area ≡ noArea
+unfolding kindAllows row oneOf any
+second-area q e k =
+    let area = row-area q (0 ∷ []) (noArea ∷ []) (identifierToSib q) (rw k at e) in
+    by-test (eqb (q .area) noArea) (eqb-true (q .area) noArea) (λ n. absurd (false≢true (rw n at area)))
+
+-- an accepted second reaches every cell
+pub second-reaches : (t : List ℕ) (cells : ℕ) (r a : List ℕ) → SecondIn t cells r a → (c : List ℕ) → reaches (requestOf r .area) (itemsOf r) (cellOf c .head) ≡ true
+unfolding reaches
+second-reaches t cells r a w c =
+    let record-fine = record-accepted r (call-accepted t r (length a) (w .accepted) .req) in
+    let allowed = request-accepted (requestOf r) (itemsOf r) (record-fine .request) in
+    rw (second-area (requestOf r) (allowed .kind) (w .second))

@@ -8,7 +8,7 @@ use lib.ListN.{length, take}
 use lib.Seq.{sets}
 use Rattle.rules.specs.Layout.{headerSize, answerSize, rowSize, placesPerCell, mostCells}
 use Rattle.rules.specs.Table.{cellOf, cellCount, cellRuns}
-use Rattle.rules.specs.Record.{writeReplace, requestOf, itemCount, itemsOf}
+use Rattle.rules.specs.Record.{writeReplace, oneSecond, requestOf, itemCount, itemsOf}
 use Rattle.rules.specs.InCell.{startsNothing}
 use Rattle.rules.specs.Answer.{Row, rowBytes}
 use Rattle.rules.specs.Refusals.{applyVerdict}
@@ -32,6 +32,12 @@ pub record WalkIn (t : List ℕ) (cells : ℕ) (r : List ℕ) (items : ℕ) (q :
   pub all-items : items ≡ itemCount r
   pub request : q ≡ requestOf r
   pub to-step : ToStep q new
+
+-- an accepted second
+pub record SecondIn (t : List ℕ) (cells : ℕ) (r a : List ℕ) : Type 0 where
+  pub accepted : applyVerdict t r (length a) ≡ Accepted
+  pub all-cells : cells ≡ cellCount t
+  pub second : requestOf r .kind ≡ oneSecond
 
 pub record WalkOut (t r : List ℕ) (q : Request) (a t′ a′ : List ℕ) (n : ℕ) : Type 0 where
   pub table : t′ ≡ tableAfter q (itemsOf r) t (cellRuns t)

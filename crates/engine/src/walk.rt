@@ -1,12 +1,15 @@
 // The walk: cells around items, for every kind.
-ghost use Rattle.engine.specs.Walk.{WalkIn, WalkOut};
+ghost use Rattle.rules.specs.Record.{requestOf};
+ghost use Rattle.engine.specs.Walk.{WalkIn, SecondIn, WalkOut};
 use crate::reach::among_four;
 use crate::reach::naming_of;
 use crate::reach::reached_at_last;
 use crate::reach::to_search;
+use crate::second::second_in_cell;
 use crate::step::step_cell;
 use rules::Request;
 use rules::kind::NO_AREA;
+use rules::kind::ONE_SECOND;
 use rules::layout::ANSWER;
 use rules::layout::CELL;
 use rules::layout::HEADER;
@@ -28,6 +31,9 @@ pub fn walk(
     requires { ⌜ WalkIn (now table) cells (now req) items request (now new) (now answer) ⌝ }
     ensures { λ r. ⌜ WalkOut (now (table .entry)) (now (req .entry)) request (now (answer .entry)) (now (table .exit)) (now (answer .exit)) r ⌝ }
 {
+    if request.kind == ONE_SECOND {
+        return seconds(table, cells, req, answer);
+    }
     let area = request.area;
     let mut at = HEADER;
     let mut out = ANSWER;
@@ -55,6 +61,28 @@ pub fn walk(
                 out += ROW * n;
                 rows += n;
             }
+        }
+    }
+    rows
+}
+
+// A second has no area: every cell is reached, and no items are looked through. `req` is there for what is promised of it.
+fn seconds(table: &mut [u8], cells: usize, req: &[u8], answer: &mut [u8]) -> usize
+    requires { ⌜ SecondIn (now table) cells (now req) (now answer) ⌝ }
+    ensures { λ r. ⌜ WalkOut (now (table .entry)) (now (req .entry)) (requestOf (now (req .entry))) (now (answer .entry)) (now (table .exit)) (now (answer .exit)) r ⌝ }
+{
+    let mut at = HEADER;
+    let mut out = ANSWER;
+    let mut rows: usize = 0;
+    let mut cells_left = cells;
+    'cells: while 0 < cells_left {
+        let start = at;
+        at += CELL;
+        cells_left -= 1;
+        let n = second_in_cell(&mut table[start..at], &mut answer[out..]);
+        if 0 < n {
+            out += ROW * n;
+            rows += n;
         }
     }
     rows

@@ -1,11 +1,10 @@
 -- `step_cell` does in a reached cell what document 01 says for the request's kind.
 -- Each way out is the kind's own routine, by the law of its kind.
 use mathlib.Core.Path.{_≡_, refl}
-use Rattle.rules.specs.Layout.{placesPerCell}
-use Rattle.rules.specs.Record.{writeReplace, cancelOrKill, restartKind, failureKind, oneSecond}
+use Rattle.rules.specs.Record.{writeReplace, cancelOrKill, restartKind, failureKind}
 use Rattle.rules.proofs.VerdictLaws.{kind-known}
-use Rattle.rules.proofs.InCellLaws.{inCell-start, inCell-cancel, inCell-restart, inCell-failure, inCell-second}
-use Rattle.engine.proofs.KindLaws.{ready-for, stepped-by, rows-of-kind, is-second}
+use Rattle.rules.proofs.InCellLaws.{inCell-start, inCell-cancel, inCell-restart, inCell-failure}
+use Rattle.engine.proofs.KindLaws.{ready-for, stepped-by, rows-of-kind, is-failure}
 use borrow.Author.Needs.{needs}
 use Rattle.engine.proofs.step.step_cell.Statement.{statement}
 use Rattle.engine.proofs.step.step_cell.Tie as tie
@@ -13,7 +12,7 @@ use Rattle.engine.proofs.step.step_cell.Tie as tie
 start-in-cell-requires : tie.Need-start-in-cell-requires
 start-in-cell-requires c κs =
     let s = c .before .before .before .before .before .before .before in
-    (ready-for (s .args .request .kind) 1 _ _ (rows-of-kind (s .args .request .kind) writeReplace 1 (c .before .before .if1 .taken) refl) (s .pre .0), s .pre .1 .start (c .before .before .if1 .taken))
+    (ready-for (s .args .request .kind) 1 _ _ (rows-of-kind (s .args .request .kind) writeReplace 1 (c .before .before .if1 .taken) refl) (s .pre .0), s .pre .1 .0 .start (c .before .before .if1 .taken))
 
 same-length : tie.Need-same-length
 same-length c = search needs
@@ -60,8 +59,8 @@ returns-3 c =
 
 failure-in-cell-requires : tie.Need-failure-in-cell-requires
 failure-in-cell-requires c κs =
-    let s = c .before .before .before .before .before .before .before .before .before .before .before .before .before in
-    ready-for (s .args .request .kind) 1 _ _ (rows-of-kind (s .args .request .kind) failureKind 1 (c .before .before .if4 .taken) refl) (s .pre .0)
+    let s = c .before .before .before .before .before .before .before .before .before .before .before in
+    ready-for (s .args .request .kind) 1 _ _ (rows-of-kind (s .args .request .kind) failureKind 1 (is-failure (s .args .request .kind) (c .before .before .before .before .before .before .if1 .left) (c .before .before .before .before .if2 .left) (c .before .before .if3 .left) (s .pre .1 .1) (kind-known (s .args .request) (s .pre .1 .0 .kind))) refl) (s .pre .0)
 
 same-length-7 : tie.Need-same-length-7
 same-length-7 c = search needs
@@ -71,25 +70,9 @@ same-length-8 c = search needs
 
 returns-4 : tie.Need-returns-4
 returns-4 c =
-    let s = c .before .before .before .before .before .before .before .before .before .before .before .before .before .before .before .before .before .before in
-    stepped-by (s .args .request) _ _ 1 _ _ _ _ _ (inCell-failure (s .args .request) _ (c .before .before .before .before .before .before .before .if4 .taken)) (rows-of-kind (s .args .request .kind) failureKind 1 (c .before .before .before .before .before .before .before .if4 .taken) refl) (c .before .before .before .before .failure-in-cell .ensures)
-
-second-in-cell-requires : tie.Need-second-in-cell-requires
-second-in-cell-requires c κs =
-    let s = c .before .before .before .before .before .before .before .before .before .before .before .before .before in
-    ready-for (s .args .request .kind) placesPerCell _ _ (rows-of-kind (s .args .request .kind) oneSecond placesPerCell (is-second (s .args .request .kind) (c .before .before .before .before .before .before .before .before .if1 .left) (c .before .before .before .before .before .before .if2 .left) (c .before .before .before .before .if3 .left) (c .before .before .if4 .left) (kind-known (s .args .request) (s .pre .1 .kind))) refl) (s .pre .0)
-
-same-length-9 : tie.Need-same-length-9
-same-length-9 c = search needs
-
-same-length-10 : tie.Need-same-length-10
-same-length-10 c = search needs
-
-returns-5 : tie.Need-returns-5
-returns-5 c =
-    let s = c .before .before .before .before .before .before .before .before .before .before .before .before .before .before .before .before .before .before in
-    let k : s .args .request .kind ≡ oneSecond = is-second (s .args .request .kind) (c .before .before .before .before .before .before .before .before .before .before .before .before .before .if1 .left) (c .before .before .before .before .before .before .before .before .before .before .before .if2 .left) (c .before .before .before .before .before .before .before .before .before .if3 .left) (c .before .before .before .before .before .before .before .if4 .left) (kind-known (s .args .request) (s .pre .1 .kind)) in
-    stepped-by (s .args .request) _ _ placesPerCell _ _ _ _ _ (inCell-second (s .args .request) _ k) (rows-of-kind (s .args .request .kind) oneSecond placesPerCell k refl) (c .before .before .before .before .second-in-cell .ensures)
+    let s = c .before .before .before .before .before .before .before .before .before .before .before .before .before .before .before .before in
+    let k : s .args .request .kind ≡ failureKind = is-failure (s .args .request .kind) (c .before .before .before .before .before .before .before .before .before .before .before .if1 .left) (c .before .before .before .before .before .before .before .before .before .if2 .left) (c .before .before .before .before .before .before .before .if3 .left) (s .pre .1 .1) (kind-known (s .args .request) (s .pre .1 .0 .kind)) in
+    stepped-by (s .args .request) _ _ 1 _ _ _ _ _ (inCell-failure (s .args .request) _ k) (rows-of-kind (s .args .request .kind) failureKind 1 k refl) (c .before .before .before .before .failure-in-cell .ensures)
 
 pub step-cell-spec : {M : Type 1} → statement M
 step-cell-spec =
@@ -110,8 +93,4 @@ step-cell-spec =
     failure-in-cell-requires
     same-length-7
     same-length-8
-    returns-4
-    second-in-cell-requires
-    same-length-9
-    same-length-10
-    returns-5)
+    returns-4)

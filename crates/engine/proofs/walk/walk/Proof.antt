@@ -15,6 +15,7 @@ use Rattle.rules.specs.Layout.{cellSize, itemSize, answerSize, placesPerCell, m
 use Rattle.rules.specs.Table.{cellOf, cellRuns}
 use Rattle.rules.specs.Record.{itemsOf}
 use Rattle.rules.specs.Reach.{reaches}
+use Rattle.rules.specs.declared.Request.{Request}
 use Rattle.rules.specs.Answer.{rowBytes}
 use Rattle.engine.specs.Walk.{rowsAfter, tableAfter}
 use Rattle.engine.specs.Reach.{byKeys, itemsFrom}
@@ -47,10 +48,28 @@ abbrev μ-cells : tie.MeasureT-cells
 μ-cells table₀ cells req items request new answer₀ area at₀ out₀ rows₀ left₀ table answer at out rows left =
     left
 
+seconds-requires : tie.Need-seconds-requires Inv-items μ-items Inv-cells μ-cells
+seconds-requires c κs =
+    let p = c .before .before .before .before .before .before .before .before in
+    record {
+      accepted = p .pre .accepted;
+      all-cells = p .pre .all-cells;
+      second = ap (λ (x : Request). x .kind) (sym (p .pre .request)) ∙ c .before .before .if1 .taken;
+    }
+
+same-length : tie.Need-same-length Inv-items μ-items Inv-cells μ-cells
+same-length c = search needs
+
+same-length-2 : tie.Need-same-length-2 Inv-items μ-items Inv-cells μ-cells
+same-length-2 c = search needs
+
+returns : tie.Need-returns Inv-items μ-items Inv-cells μ-cells
+returns c = rw (c .before .before .before .before .before .before .before .before .before .before .before .before .before .pre .request) (c .before .before .before .before .seconds .ensures)
+
 cells-holds : tie.Need-cells-holds Inv-items μ-items Inv-cells μ-cells
 cells-holds c =
-    let p = c .before .before .before .before in
-    begin (p .args .table .now) (p .args .cells) (p .args .req .now) (p .args .items) (p .args .request) (p .args .new .now) (p .args .answer .now) (λ i. c .before .before .before .slice-known .given i .fits) (p .pre)
+    let p = c .before .before .before .before .before .before in
+    begin (p .args .table .now) (p .args .cells) (p .args .req .now) (p .args .request) (p .args .answer .now) (λ i. c .before .before .before .before .before .slice-known .given i .fits) (p .pre .accepted) (p .pre .all-cells) (p .pre .request)
 
 add-at : tie.Need-add-at Inv-items μ-items Inv-cells μ-cells
 add-at c = omega arith
@@ -78,7 +97,7 @@ to-search-requires c κs = search needs
 
 items-holds : tie.Need-items-holds Inv-items μ-items Inv-cells μ-cells
 items-holds c =
-    let p = c .before .before .before .before .before .before .before .before .before .before in
+    let p = c .before .before .before .before .before .before .before .before .before .before .before .before in
     let l = c .before .before .before .before .before .cells in
     let k : l .at + cellSize - l .at ≡ cellSize = omega arith in (
       search-span _ _ _ _ _ _ _ (p .pre) (eqb (c .before .naming-of .result .keys) 0) _ (c .to-search .ensures),
@@ -104,11 +123,11 @@ items-less c = omega arith
 items-again : tie.Need-items-again Inv-items μ-items Inv-cells μ-cells
 items-again c =
     let i = c .before .before .before .items in
-    let p = c .before .before .before .before .before .before .before .before .before .before .before .before .before .before in (
+    let p = c .before .before .before .before .before .before .before .before .before .before .before .before .before .before .before .before in (
       omega arith,
       i .inv .1
           ∙ ap (cond (i .reached) true)
-          (search-miss (byKeys (c .before .before .before .before .before .naming-of .result)) (p .args .req .now) (i .from) (i .todo) (c .before .before .items-test .taken) (i .inv .0) (sym (c .before .among-four .ensures) ∙ c .if1 .left)),
+          (search-miss (byKeys (c .before .before .before .before .before .naming-of .result)) (p .args .req .now) (i .from) (i .todo) (c .before .before .items-test .taken) (i .inv .0) (sym (c .before .among-four .ensures) ∙ c .if2 .left)),
     )
 
 reached-at-last-requires : tie.Need-reached-at-last-requires Inv-items μ-items Inv-cells μ-cells
@@ -117,10 +136,10 @@ reached-at-last-requires c κs =
 
 -- whether the cell is reached, where the search has ended
 found : (c : tie.After-reached-at-last Inv-items μ-items Inv-cells μ-cells)
-    → reaches (c .before .before .before .before .before .before .before .before .before .before .before .before .before .args .request .area) (itemsOf (c .before .before .before .before .before .before .before .before .before .before .before .before .before .args .req .now)) (cellOf (take cellSize (drop (c .before .before .before .before .before .before .before .before .cells .at) (c .before .before .before .before .before .before .before .before .cells .table))) .head) ≡ c .reached-at-last .result
+    → reaches (c .before .before .before .before .before .before .before .before .before .before .before .before .before .before .before .args .request .area) (itemsOf (c .before .before .before .before .before .before .before .before .before .before .before .before .before .before .before .args .req .now)) (cellOf (take cellSize (drop (c .before .before .before .before .before .before .before .before .cells .at) (c .before .before .before .before .before .before .before .before .cells .table))) .head) ≡ c .reached-at-last .result
 found c =
     let i = c .before .before .items in
-    let p = c .before .before .before .before .before .before .before .before .before .before .before .before .before in
+    let p = c .before .before .before .before .before .before .before .before .before .before .before .before .before .before .before in
     let by = byKeys (c .before .before .before .before .naming-of .result) in
     let rest = any by (itemsFrom (i .from) (i .todo) (p .args .req .now)) in
     ⊎-elim
@@ -154,10 +173,10 @@ step-cell-requires : tie.Need-step-cell-requires Inv-items μ-items Inv-cells μ
 step-cell-requires c κs =
     let l = c .before .before .before .before .before .before .before .before .before .before .before .cells in
     let k : l .at + cellSize - l .at ≡ cellSize = omega arith in
-    (asked _ _ _ _ _ _ _ _ _ _ _ _ _ _ (l .inv) (c .before .before .before .before .before .before .before .before .before .before .cells-test .taken) (l .at + cellSize - l .at) (length (l .answer) - l .out) k refl, c .before .before .before .before .before .before .before .before .before .before .before .before .before .before .before .before .pre .to-step)
+    (asked _ _ _ _ _ _ _ _ _ _ _ _ _ _ (l .inv) (c .before .before .before .before .before .before .before .before .before .before .cells-test .taken) (l .at + cellSize - l .at) (length (l .answer) - l .out) k refl, (c .before .before .before .before .before .before .before .before .before .before .before .before .before .before .before .before .before .before .pre .to-step, c .before .before .before .before .before .before .before .before .before .before .before .before .if1 .left))
 
 mul-out : tie.Need-mul-out Inv-items μ-items Inv-cells μ-cells
-mul-out c = omega (arith, c .before .before .before .before .before .step-cell .ensures .few, few-rows (c .before .before .before .before .before .before .before .before .before .before .before .before .before .before .before .before .before .before .before .before .before .before .args .request .kind))
+mul-out c = omega (arith, c .before .before .before .before .before .step-cell .ensures .few, few-rows (c .before .before .before .before .before .before .before .before .before .before .before .before .before .before .before .before .before .before .before .before .before .before .before .before .args .request .kind))
 
 add-out : tie.Need-add-out Inv-items μ-items Inv-cells μ-cells
 add-out c =
@@ -177,7 +196,7 @@ cells-again c =
     let l = c .before .before .before .before .before .before .before .before .before .before .before .before .before .before .before .before .before .cells in
     let s = c .before .before .before .before .before .step-cell in
     let k : l .at + cellSize - l .at ≡ cellSize = omega arith in
-    stepped _ _ _ _ _ _ _ _ _ _ _ _ _ _ (l .inv) (c .before .before .before .before .before .before .before .before .before .before .before .before .before .before .before .before .cells-test .taken) (found (c .before .before .before .before .before .before .before .before .before) ∙ c .before .before .before .before .before .before .before .before .if2 .taken) (l .at + cellSize - l .at) (length (l .answer) - l .out) k refl
+    stepped _ _ _ _ _ _ _ _ _ _ _ _ _ _ (l .inv) (c .before .before .before .before .before .before .before .before .before .before .before .before .before .before .before .before .cells-test .taken) (found (c .before .before .before .before .before .before .before .before .before) ∙ c .before .before .before .before .before .before .before .before .if3 .taken) (l .at + cellSize - l .at) (length (l .answer) - l .out) k refl
     (s .last .0) (s .last .1 .1 .1 .0) (s .result) (s .ensures) (s .kept .0)
 
 cells-less-2 : tie.Need-cells-less-2 Inv-items μ-items Inv-cells μ-cells
@@ -188,8 +207,8 @@ cells-again-2 c =
     let l = c .before .before .before .before .before .before .before .before .before .before .before .before .before .before .before .before .before .cells in
     let s = c .before .before .before .before .before .step-cell in
     let k : l .at + cellSize - l .at ≡ cellSize = omega arith in
-    stepped-silent _ _ _ _ _ _ _ _ _ _ _ _ _ _ (l .inv) (c .before .before .before .before .before .before .before .before .before .before .before .before .before .before .before .before .cells-test .taken) (found (c .before .before .before .before .before .before .before .before .before) ∙ c .before .before .before .before .before .before .before .before .if2 .taken) (l .at + cellSize - l .at) (length (l .answer) - l .out) k refl
-    (s .last .0) (s .last .1 .1 .1 .0) (s .result) (s .ensures) (s .kept .0) (c .if3 .left)
+    stepped-silent _ _ _ _ _ _ _ _ _ _ _ _ _ _ (l .inv) (c .before .before .before .before .before .before .before .before .before .before .before .before .before .before .before .before .cells-test .taken) (found (c .before .before .before .before .before .before .before .before .before) ∙ c .before .before .before .before .before .before .before .before .if3 .taken) (l .at + cellSize - l .at) (length (l .answer) - l .out) k refl
+    (s .last .0) (s .last .1 .1 .1 .0) (s .result) (s .ensures) (s .kept .0) (c .if4 .left)
 
 cells-less-3 : tie.Need-cells-less-3 Inv-items μ-items Inv-cells μ-cells
 cells-less-3 c = omega arith
@@ -197,16 +216,16 @@ cells-less-3 c = omega arith
 cells-again-3 : tie.Need-cells-again-3 Inv-items μ-items Inv-cells μ-cells
 cells-again-3 c =
     let l = c .before .before .before .before .before .before .before .before .before .cells in
-    passed _ _ _ _ _ _ _ _ _ _ _ _ _ _ (l .inv) (c .before .before .before .before .before .before .before .before .cells-test .taken) (found (c .before) ∙ c .if2 .left)
+    passed _ _ _ _ _ _ _ _ _ _ _ _ _ _ (l .inv) (c .before .before .before .before .before .before .before .before .cells-test .taken) (found (c .before) ∙ c .if3 .left)
 
-same-length : tie.Need-same-length Inv-items μ-items Inv-cells μ-cells
-same-length c = c .before .cells .inv .same-t
+same-length-3 : tie.Need-same-length-3 Inv-items μ-items Inv-cells μ-cells
+same-length-3 c = c .before .cells .inv .same-t
 
-same-length-2 : tie.Need-same-length-2 Inv-items μ-items Inv-cells μ-cells
-same-length-2 c = c .before .cells .inv .same-a
+same-length-4 : tie.Need-same-length-4 Inv-items μ-items Inv-cells μ-cells
+same-length-4 c = c .before .cells .inv .same-a
 
-returns : tie.Need-returns Inv-items μ-items Inv-cells μ-cells
-returns c =
+returns-2 : tie.Need-returns-2 Inv-items μ-items Inv-cells μ-cells
+returns-2 c =
     let l = c .before .cells in
     record {
       table = sym (over-table _ _ _ _ _ _ _ _ _ _ _ _ _ _ _ (l .inv) (c .cells-test .left));
@@ -223,6 +242,10 @@ walk-spec =
     μ-items
     Inv-cells
     μ-cells
+    seconds-requires
+    same-length
+    same-length-2
+    returns
     cells-holds
     add-at
     sub-left
@@ -255,6 +278,6 @@ walk-spec =
     cells-again-2
     cells-less-3
     cells-again-3
-    same-length
-    same-length-2
-    returns)
+    same-length-3
+    same-length-4
+    returns-2)
