@@ -106,7 +106,10 @@ fn new_bytes(req: &[u8]) -> [u8; PLACE]
 fn idle(request: Request) -> bool
     ensures { λ r. ⌜ r ≡ isIdle request ⌝ }
 {
-    (request.kind == WRITE_REPLACE) & starts_nothing(request)
+    if request.kind != WRITE_REPLACE {
+        return false;
+    }
+    starts_nothing(request)
 }
 
 // An accepted request: the number of rows. A start that the zero rules stop changes no cell.
