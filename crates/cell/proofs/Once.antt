@@ -12,7 +12,7 @@ use Rattle.cell.specs.declared.read.Counts.{Counts}
 use Rattle.cell.specs.declared.read.Sought.{Sought}
 use Rattle.cell.specs.declared.read.Areas.{Areas}
 
--- `is_live`, `text`, `content`, `sent`, `wait`, `place`, `Areas::has`, `identity` and `tracking` return x
+-- `is_live`, `text`, `content`, `sent`, `wait`, `place`, `identity` and `tracking` return x
 pub returned-once : {A : Type 0} (x : A) {r s : A} → r ≡ x → s ≡ x → r ≡ s
 returned-once x = one-outcome
 

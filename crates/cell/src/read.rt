@@ -25,11 +25,10 @@ ghost use mathlib.Core.Path.{_≡_};
 ghost use Prim.Native.Nat.{_<_};
 ghost use lib.Dec.{ltb};
 ghost use lib.ListN.{length, take};
-ghost use Rattle.rules.specs.Lists.{oneOf};
 ghost use Rattle.rules.specs.Layout.{headSize, placesPerCell, cellSize};
 ghost use Rattle.rules.specs.Identity.{trackingItem};
 ghost use Rattle.rules.specs.Table.{headOf};
-ghost use Rattle.cell.specs.Places.{livePlaces, Formed, placeAt, LiveAt, textOf, indexOf, areasIn, HeadAreas};
+ghost use Rattle.cell.specs.Places.{livePlaces, Formed, placeAt, LiveAt, textOf, indexOf, HeadAreas};
 
 // ---- one place
 
@@ -167,29 +166,6 @@ pub struct Areas {
     pub second: u32,
     pub third: u32,
     pub fourth: u32,
-}
-
-impl Areas {
-    pub fn has(self, item: u64) -> bool
-        ensures { λ r. ⌜ r ≡ oneOf item (areasIn self) ⌝ }
-    {
-        if self.used == 0 {
-            return false;
-        }
-        let first = item == (self.first as u64);
-        if self.used == 1 {
-            return first;
-        }
-        let second = item == (self.second as u64);
-        if self.used == 2 {
-            return first | second;
-        }
-        let third = item == (self.third as u64);
-        if self.used == 3 {
-            return first | (second | third);
-        }
-        first | (second | (third | (item == (self.fourth as u64))))
-    }
 }
 
 pub fn identity(cell: &[u8]) -> u64

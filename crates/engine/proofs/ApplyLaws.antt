@@ -1,47 +1,38 @@
 -- What the tests of a call came to, and what an accepted one leaves: the cases of `applied`, from what the code has done.
 -- The walk leaves the table and the rows; the head goes in front of them.
 use mathlib.Core.Path.{_≡_, refl, sym, ap, ap₂, _∙_}
-use mathlib.Core.Bool.{Bool, true, false, cond, _&&_}
+use mathlib.Core.Bool.{true, false, _&&_}
 use mathlib.Core.List.{List, [], _∷_, _++_, map, flatMap, append-nil}
 use Prim.Native.Nat.{ℕ, _+_, _*_, _<_, _≤_}
-use native.Mathlib.Nat.{mul-assoc}
 use native.Mathlib.Omega.{arith}
-use lib.Dec.{eqb, leb}
-use lib.ListN.{length, getD}
+use lib.Dec.{eqb}
+use lib.ListN.{length}
 use lib.Seq.{sets}
-use borrow.Author.Tests.{eqb-true, eqb-false, eq-eqb, ne-eqb, le-leb, lt-leb}
-use Rattle.octets.specs.Runs.{gets, Bytes}
-use Rattle.octets.specs.Numbers.{be, toBe}
-use Rattle.octets.specs.Fields.{offset, bytesOf}
-use Rattle.octets.proofs.NumbersLaws.{be-run, toBe-gets}
+use borrow.Author.Tests.{eqb-true, eq-eqb, le-leb, lt-leb}
+use Rattle.octets.specs.Runs.{Bytes}
 use Rattle.octets.proofs.RunsLaws.{sets-back-first, length-flatMap}
-use Rattle.rules.specs.Layout.{field, recordFields, headerSize, recordSize, answerSize, rowSize, placesPerCell, mostCells, longestPeriod}
+use Rattle.rules.specs.Layout.{headerSize, recordSize, answerSize, rowSize, placesPerCell, longestPeriod}
 use Rattle.rules.specs.Lists.{every, zeros, oneOf}
-use Rattle.rules.specs.Table.{cellOf, cellCount, cellRuns, cellsOf, tableBytes, placeNumbers, placeBytes}
+use Rattle.rules.specs.Table.{cellOf, cellCount, cellRuns, cellsOf, tableBytes, placeBytes}
 use Rattle.rules.specs.Record.{writeReplace, requestOf, itemsOf, row, kindAllows, withinLimits}
 use Rattle.rules.specs.InCell.{startsNothing, newPlace}
 use Rattle.rules.specs.Answer.{Row, rowBytes, answerHead, answerBytes, roomFor}
-use Rattle.rules.specs.Refusals.{tableVerdict, recordVerdict, requestVerdict, applyVerdict, refuseUnless, _then_}
+use Rattle.rules.specs.Refusals.{tableVerdict, recordVerdict, applyVerdict, _then_}
 use Rattle.rules.specs.Applied.{stepCell, cellRows, outcome, outcomeBy, applied}
-use Rattle.rules.specs.Sound.{soundPlace}
-use Rattle.rules.specs.declared.Place.{Place}
 use Rattle.rules.specs.declared.Request.{Request}
 use Rattle.rules.specs.declared.Refusal.{Refusal}
 use Rattle.rules.specs.declared.Refusal.the-variants.{ShortBuffer}
 use Rattle.rules.specs.declared.Answer.the-variants.{Written, Nothing}
-use Rattle.rules.specs.declared.Verdict.{Verdict}
 use Rattle.rules.specs.declared.Verdict.the-variants.{Accepted, Refused}
-use Rattle.rules.proofs.ListsLaws.{both, by-test}
-use Rattle.rules.proofs.LayoutLaws.{record-size}
-use Rattle.rules.proofs.FieldLaws.{field-at}
-use Rattle.rules.proofs.TableCodec.{LegalTable, table-accepted, table-back}
+use Rattle.rules.proofs.ListsLaws.{both}
+use Rattle.rules.proofs.TableCodec.{table-accepted, table-back}
 use Rattle.rules.proofs.RecordTrips.{AcceptedRecord, record-accepted}
 use Rattle.rules.proofs.VerdictLaws.{AllowedRequest, request-accepted, KnownKind, starts, cancels, restarts, fails, passes, kind-known}
 use Rattle.rules.proofs.StartLaws.{write-limits, new-sound}
 use Rattle.rules.proofs.AppliedLaws.{AcceptedCall, call-accepted, record-fits, length-answerHead, length-answerBytes, length-rowBytes, answer-fits, applied-table, applied-answer}
 use Rattle.rules.proofs.AppliedRuns.{applied-by-runs, rows-of-runs, idle-cells, idle-answer}
-use Rattle.engine.specs.Step.{StartIn, ToStep}
-use Rattle.engine.specs.Walk.{rowsAfter, tableAfter, isIdle, WalkIn, WalkOut, Granted}
+use Rattle.engine.specs.Step.{ToStep}
+use Rattle.engine.specs.Walk.{rowsAfter, tableAfter, isIdle, WalkOut, Granted}
 
 -- ---- the tests
 
@@ -84,52 +75,6 @@ pub call-req : (t r : List ℕ) (room : ℕ) → applyVerdict t r room ≡ Accep
 call-req t r room e = call-accepted t r room e .req
 
 -- ---- the place that is made, as its bytes stand in the record
-
-module _ (r : List ℕ) (b : Bytes r) (long : recordSize ≤ length r) (short : requestOf r .period .0 ≤ longestPeriod) where
-  record-field : (k : ℕ) → field recordFields k r ≡ be (gets r (offset recordFields k) (getD recordFields k 0))
-  record-field = field-at recordFields r (rw record-size long)
-
-  identifier-bytes : toBe 2 (requestOf r .identifier) ≡ gets r 8 2
-  unfolding requestOf offset
-  identifier-bytes = rw (record-field 5) (toBe-gets 2 r 8 b)
-
-  serial-bytes : toBe 2 (requestOf r .serial) ≡ gets r 10 2
-  unfolding requestOf offset
-  serial-bytes = rw (record-field 6) (toBe-gets 2 r 10 b)
-
-  content-bytes : toBe 4 (requestOf r .content) ≡ gets r 12 4
-  unfolding requestOf offset
-  content-bytes = rw (record-field 7) (toBe-gets 4 r 12 b)
-
-  -- the two upper bytes of a period within its limit are zero
-  period-low : requestOf r .period .0 ≡ be (gets r 18 2)
-  unfolding requestOf offset
-  period-low =
-      let e : requestOf r .period .0 ≡ be (gets r 16 4) = record-field 8 in
-      let two : be (gets r 16 2) * 65536 + be (gets r 18 2) ≡ be (gets r 16 4) = be-run 2 2 r 16 18 refl in
-      omega (arith, e, two, short)
-
-  period-bytes : toBe 2 (requestOf r .period .0) ≡ gets r 18 2
-  period-bytes = rw period-low (toBe-gets 2 r 18 b)
-
-  requested-bytes : toBe 2 (requestOf r .requested .0) ≡ gets r 20 2
-  unfolding requestOf offset
-  requested-bytes = rw (record-field 9) (toBe-gets 2 r 20 b)
-
-  sib-bytes : toBe 1 (requestOf r .sib) ≡ gets r 22 1
-  unfolding requestOf offset
-  sib-bytes = rw (record-field 10) (toBe-gets 1 r 22 b)
-
-  new-parts : placeBytes (newPlace (requestOf r))
-      ≡ gets r 8 2 ++ (gets r 10 2 ++ (gets r 12 4 ++ (gets r 18 2 ++ (gets r 20 2 ++ (toBe 2 0 ++ (toBe 2 0 ++ (gets r 22 1 ++ (toBe 1 1 ++ (toBe 2 0 ++ [])))))))))
-  unfolding placeBytes placeNumbers bytesOf newPlace
-  new-parts = rw (identifier-bytes, serial-bytes, content-bytes, period-bytes, requested-bytes, sib-bytes)
-
-  pub new-read : getD r 8 0 ∷ getD r 9 0 ∷ getD r 10 0 ∷ getD r 11 0 ∷ getD r 12 0 ∷ getD r 13 0 ∷ getD r 14 0 ∷ getD r 15 0 ∷ getD r 18 0 ∷ getD r 19 0 ∷ getD r 20 0 ∷ getD r 21 0
-      ∷ 0 ∷ 0 ∷ 0 ∷ 0 ∷ getD r 22 0 ∷ 1 ∷ 0 ∷ 0 ∷ []
-      ≡ placeBytes (newPlace (requestOf r))
-  unfolding gets toBe
-  new-read = sym new-parts
 
 -- ---- refused
 

@@ -3,10 +3,8 @@ ghost use mathlib.Core.Path.{_≡_};
 ghost use mathlib.Core.List.{[]};
 ghost use Prim.Native.Nat.{_≤_};
 ghost use lib.ListN.{length};
-ghost use Rattle.rules.specs.Layout.{headerSize, recordSize, longestPeriod};
-ghost use Rattle.rules.specs.Table.{cellCount, placeBytes};
-ghost use Rattle.rules.specs.Record.{requestOf};
-ghost use Rattle.rules.specs.InCell.{newPlace};
+ghost use Rattle.rules.specs.Layout.{headerSize};
+ghost use Rattle.rules.specs.Table.{cellCount};
 ghost use Rattle.rules.specs.Answer.{roomFor};
 ghost use Rattle.rules.specs.Refusals.{applyVerdict};
 ghost use Rattle.rules.specs.Applied.{outcomeBy, applied};
@@ -16,7 +14,7 @@ use crate::head::put_head;
 use crate::start::starts_nothing;
 use crate::walk::walk;
 use octets::get16;
-use places::place_bytes;
+use places::new_bytes;
 use record::read::count;
 use record::read::request;
 use rules::Answer;
@@ -27,15 +25,8 @@ use rules::kind::ONE_SECOND;
 use rules::kind::WRITE_REPLACE;
 use rules::layout::ANSWER;
 use rules::layout::CELLS_AT;
-use rules::layout::IDENTIFIER_AT;
-use rules::layout::PLACE;
 use rules::layout::PLACES;
-use rules::layout::RECORD_CONTENT_AT;
-use rules::layout::RECORD_PERIOD_AT;
-use rules::layout::RECORD_REQUESTED_AT;
-use rules::layout::RECORD_SIB_AT;
 use rules::layout::ROW;
-use rules::layout::SERIAL_AT;
 
 fn cells_of(table: &[u8]) -> usize
     requires { ⌜ headerSize ≤ length (now table) ⌝ }
@@ -70,36 +61,6 @@ fn verdict(table: &[u8], req: &[u8], room: usize) -> Verdict
         return Verdict::Refused(Refusal::ShortBuffer);
     }
     Verdict::Accepted
-}
-
-// The bytes of the place that a Write-Replace makes, as they stand in its record: sent and wait are 0, and it is live.
-fn new_bytes(req: &[u8]) -> [u8; PLACE]
-    requires { ⌜ recordSize ≤ length (now req) ⌝ }
-    requires { ⌜ requestOf (now req) .period .0 ≤ longestPeriod ⌝ }
-    ensures { λ r. ⌜ r ≡ placeBytes (newPlace (requestOf (now (req .entry)))) ⌝ }
-{
-    [
-        req[IDENTIFIER_AT],
-        req[IDENTIFIER_AT + 1],
-        req[SERIAL_AT],
-        req[SERIAL_AT + 1],
-        req[RECORD_CONTENT_AT],
-        req[RECORD_CONTENT_AT + 1],
-        req[RECORD_CONTENT_AT + 2],
-        req[RECORD_CONTENT_AT + 3],
-        req[RECORD_PERIOD_AT + 2],
-        req[RECORD_PERIOD_AT + 3],
-        req[RECORD_REQUESTED_AT],
-        req[RECORD_REQUESTED_AT + 1],
-        0,
-        0,
-        0,
-        0,
-        req[RECORD_SIB_AT],
-        1,
-        0,
-        0,
-    ]
 }
 
 // A start that the zero rules stop.

@@ -1,2 +1,3 @@
 pub mod ChangesLaws
+pub mod NewLaws
 pub mod Once

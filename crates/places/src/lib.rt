@@ -5,12 +5,17 @@ use octets::get64;
 use octets::put16;
 use octets::put32;
 use octets::put64;
-use rules::Place;
 use rules::Seconds;
 use rules::layout::HEAD;
+use rules::layout::IDENTIFIER_AT;
 use rules::layout::PLACE;
 use rules::layout::PLACES;
+use rules::layout::RECORD_CONTENT_AT;
+use rules::layout::RECORD_PERIOD_AT;
+use rules::layout::RECORD_REQUESTED_AT;
+use rules::layout::RECORD_SIB_AT;
 use rules::layout::SENT_AT;
+use rules::layout::SERIAL_AT;
 use rules::layout::WAIT_AT;
 ghost use mathlib.Core.Path.{_≡_};
 ghost use mathlib.Core.List.{[], _∷_, _++_};
@@ -18,9 +23,10 @@ ghost use Prim.Native.Nat.{_+_, _*_, _≤_, _<_};
 ghost use lib.ListN.{length, set};
 ghost use lib.Seq.{sets};
 ghost use Rattle.octets.specs.Runs.{gets};
-ghost use Rattle.rules.specs.Layout.{headSize, placeSize, placesPerCell, cellSize, longestPeriod};
+ghost use Rattle.rules.specs.Layout.{headSize, placeSize, placesPerCell, cellSize, longestPeriod, recordSize};
 ghost use Rattle.rules.specs.Table.{placeOf, placeBytes, freeBytes};
-ghost use Rattle.rules.specs.InCell.{withCounts};
+ghost use Rattle.rules.specs.Record.{requestOf};
+ghost use Rattle.rules.specs.InCell.{newPlace, withCounts};
 ghost use Rattle.cell.specs.Places.{livePlaces, withPlaces, placeAt, LiveAt, FreeAt, OnePlace, without};
 ghost use Rattle.places.specs.Words.{wordBytes};
 
@@ -128,29 +134,30 @@ pub fn add_place(cell: &mut [u8], k: usize, new: &[u8])
     store(cell, HEAD + PLACE * k, words);
 }
 
-// The bytes of a live place, in the layout's order.
-pub fn place_bytes(place: Place) -> [u8; PLACE]
-    requires { ⌜ (place .period .0 ≤ longestPeriod) × (place .wait .0 ≤ longestPeriod) ⌝ }
-    ensures { λ r. ⌜ r ≡ placeBytes place ⌝ }
+// The bytes of the place that a Write-Replace makes, as they stand in its record: sent and wait are 0, and it is live.
+pub fn new_bytes(req: &[u8]) -> [u8; PLACE]
+    requires { ⌜ recordSize ≤ length (now req) ⌝ }
+    requires { ⌜ requestOf (now req) .period .0 ≤ longestPeriod ⌝ }
+    ensures { λ r. ⌜ r ≡ placeBytes (newPlace (requestOf (now (req .entry)))) ⌝ }
 {
     [
-        (place.identifier / 256) as u8,
-        (place.identifier % 256) as u8,
-        (place.serial / 256) as u8,
-        (place.serial % 256) as u8,
-        (place.content / 16777216) as u8,
-        (place.content % 16777216 / 65536) as u8,
-        (place.content % 65536 / 256) as u8,
-        (place.content % 256) as u8,
-        (place.period.0 / 256) as u8,
-        (place.period.0 % 256) as u8,
-        (place.requested.0 / 256) as u8,
-        (place.requested.0 % 256) as u8,
-        (place.sent.0 / 256) as u8,
-        (place.sent.0 % 256) as u8,
-        (place.wait.0 / 256) as u8,
-        (place.wait.0 % 256) as u8,
-        place.sib,
+        req[IDENTIFIER_AT],
+        req[IDENTIFIER_AT + 1],
+        req[SERIAL_AT],
+        req[SERIAL_AT + 1],
+        req[RECORD_CONTENT_AT],
+        req[RECORD_CONTENT_AT + 1],
+        req[RECORD_CONTENT_AT + 2],
+        req[RECORD_CONTENT_AT + 3],
+        req[RECORD_PERIOD_AT + 2],
+        req[RECORD_PERIOD_AT + 3],
+        req[RECORD_REQUESTED_AT],
+        req[RECORD_REQUESTED_AT + 1],
+        0,
+        0,
+        0,
+        0,
+        req[RECORD_SIB_AT],
         LIVE,
         0,
         0,

@@ -1,9 +1,9 @@
 -- `new_bytes` returns the bytes of the place that a Write-Replace makes.
 -- Each stands in the record as it stands in the place, but for the period, of which the lower half does: `new-read`.
-use Rattle.engine.proofs.ApplyLaws.{new-read}
+use Rattle.places.proofs.NewLaws.{new-read}
 use borrow.Author.Needs.{needs}
-use Rattle.engine.proofs.apply.new_bytes.Statement.{statement}
-use Rattle.engine.proofs.apply.new_bytes.Tie as tie
+use Rattle.places.proofs.new_bytes.Statement.{statement}
+use Rattle.places.proofs.new_bytes.Tie as tie
 
 shared-slice-read-t3 : tie.Need-shared-slice-read-t3
 shared-slice-read-t3 c = search needs
