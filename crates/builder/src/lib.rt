@@ -65,9 +65,8 @@ fn heads_in_order(heads: &[u8], count: usize) -> bool
     ensures { λ r. ⌜ r ≡ legalRuns legalHead (pieces headSize count (now (heads .entry))) ⌝ }
 {
     let mut at: usize = 0;
-    let mut left = count;
     let mut least: u64 = 0;
-    while 0 < left {
+    while at < heads.len() {
         let end = at + HEAD;
         let identity = get64(heads, at);
         if identity < least {
@@ -78,7 +77,6 @@ fn heads_in_order(heads: &[u8], count: usize) -> bool
         }
         least = identity + 1;
         at = end;
-        left -= 1;
     }
     true
 }

@@ -1,8 +1,10 @@
 -- `heads_in_order` says whether every head is legal and the heads ascend by NR CGI.
 -- The invariant, `RunsLeft`, speaks of the heads still to come and of the least NR CGI that may follow.
-use mathlib.Core.Path.{sym}
-use Prim.Native.Nat.{_<_}
+use mathlib.Core.Path.{_≡_, sym}
+use mathlib.Core.List.{List}
+use Prim.Native.Nat.{ℕ, _+_, _-_, _/_, _<_}
 use native.Mathlib.Omega.{arith}
+use lib.ListN.{length}
 use borrow.Author.Needs.{needs}
 use Rattle.rules.specs.Layout.{headSize, cellEnd}
 use Rattle.rules.specs.Table.{legalHead}
@@ -10,14 +12,25 @@ use Rattle.table.proofs.OrderLaws.{RunsLeft, runs-start, runs-below, runs-wrong
 use Rattle.builder.proofs.heads_in_order.Statement.{statement}
 use Rattle.builder.proofs.heads_in_order.Tie as tie
 
+-- how many heads are behind an index
+abbrev behind : List ℕ → ℕ → ℕ
+behind heads at = (length heads - at) / headSize
+
+left-is : {count at m n least : ℕ} {heads : List ℕ} → RunsLeft legalHead headSize count heads at m least → m ≡ n
+    → RunsLeft legalHead headSize count heads at n least
+left-is p e = rw e at p
+
 abbrev Inv-loop : tie.InvT-loop
-Inv-loop heads count at₀ left₀ least₀ at left least = RunsLeft legalHead headSize count heads at left least
+Inv-loop heads count at₀ least₀ at least = RunsLeft legalHead headSize count heads at (behind heads at) least
 
 abbrev μ-loop : tie.MeasureT-loop
-μ-loop heads count at₀ left₀ least₀ at left least = left
+μ-loop heads count at₀ least₀ at least = behind heads at
 
 loop-holds : tie.Need-loop-holds Inv-loop μ-loop
-loop-holds c = runs-start legalHead headSize _ _ (c .before .pre)
+loop-holds c =
+    let heads = c .before .args .heads .now in
+    let all : c .before .args .count ≡ behind heads 0 = omega (arith, c .before .pre) in
+    left-is (runs-start legalHead headSize (c .before .args .count) heads (c .before .pre)) all
 
 add-end : tie.Need-add-end Inv-loop μ-loop
 add-end c = search needs
@@ -28,7 +41,7 @@ get64-requires c κs = search needs
 returns : tie.Need-returns Inv-loop μ-loop
 returns c =
     let loop = c .before .before .before in
-    sym (runs-below (loop .loop .inv) (c .before .before .loop-test .taken) (omega arith) _ (c .before .get64 .ensures) (c .if1 .taken))
+    sym (runs-below (loop .loop .inv) (omega arith) (omega arith) _ (c .before .get64 .ensures) (c .if1 .taken))
 
 sub-head-legal : tie.Need-sub-head-legal Inv-loop μ-loop
 sub-head-legal c = search needs
@@ -46,29 +59,28 @@ returns-2 : tie.Need-returns-2 Inv-loop μ-loop
 returns-2 c =
     let read = c .before .before .before .before in
     let loop = read .before .before in
-    sym (runs-wrong (loop .loop .inv) (read .before .loop-test .taken) (omega arith) _ (read .get64 .ensures) (c .before .before .before .if1 .left) _ (c .before .head-legal .ensures) (c .if2 .taken))
+    sym (runs-wrong (loop .loop .inv) (omega arith) (omega arith) _ (read .get64 .ensures) (c .before .before .before .if1 .left) _ (c .before .head-legal .ensures) (c .if2 .taken))
 
 add-least : tie.Need-add-least Inv-loop μ-loop
 add-least c =
     let read = c .before .before .before .before in
     let loop = read .before .before in
-    let small : read .get64 .result < cellEnd = runs-small (loop .loop .inv) (read .before .loop-test .taken) (omega arith) _ (read .get64 .ensures) (c .before .before .before .if1 .left) _ (c .before .head-legal .ensures) head-small (c .if2 .left) in
+    let small : read .get64 .result < cellEnd = runs-small (loop .loop .inv) (omega arith) (omega arith) _ (read .get64 .ensures) (c .before .before .before .if1 .left) _ (c .before .head-legal .ensures) head-small (c .if2 .left) in
     omega arith
 
-sub-left : tie.Need-sub-left Inv-loop μ-loop
-sub-left c = search needs
-
 loop-less : tie.Need-loop-less Inv-loop μ-loop
-loop-less c = search needs
+loop-less c = omega arith
 
 loop-again : tie.Need-loop-again Inv-loop μ-loop
 loop-again c =
     let read = c .before .before .before .before in
     let loop = read .before .before in
-    runs-on (loop .loop .inv) (read .before .loop-test .taken) (omega arith) _ (read .get64 .ensures) (c .before .before .before .if1 .left) _ (c .before .head-legal .ensures) (c .if2 .left)
+    let heads = loop .before .before .args .heads .now in
+    let one-less : behind heads (loop .loop .at) - 1 ≡ behind heads (loop .loop .at + headSize) = omega arith in
+    left-is (runs-on (loop .loop .inv) (omega arith) (omega arith) _ (read .get64 .ensures) (c .before .before .before .if1 .left) _ (c .before .head-legal .ensures) (c .if2 .left)) one-less
 
 returns-3 : tie.Need-returns-3 Inv-loop μ-loop
-returns-3 c = sym (runs-end (c .before .loop .inv) (c .loop-test .left))
+returns-3 c = sym (runs-end (c .before .loop .inv) (omega arith))
 
 pub heads-in-order-spec : {M : Type 1} → statement M
 heads-in-order-spec =
@@ -86,7 +98,6 @@ heads-in-order-spec =
     head-legal-requires
     returns-2
     add-least
-    sub-left
     loop-less
     loop-again
     returns-3)
