@@ -28,8 +28,8 @@ use serve::serve;
 // The bytes of N.
 const COUNT: usize = 2;
 
-// The text of one request is never longer (specs/Report, mostText).
-const MOST_TEXT: usize = 77849;
+// The text of one request is never longer: a first line of 25 letters and 38 for each place of each cell (specs/Report, mostText).
+const MOST_TEXT: usize = 25 + 38 * PLACES * MOST_CELLS;
 
 // The bytes at hand in the input buffer, the end of the text that is not yet written, and whether there is more to do.
 pub struct Window {
