@@ -9,7 +9,7 @@ use Rattle.rules.specs.Refusals.{numberOf, answerNumber, answerLength}
 use Rattle.rules.specs.Applied.{Filled, ReadOutcome, filledBy, readBy}
 use Rattle.rules.specs.declared.Request.{Request}
 use Rattle.rules.specs.declared.Refusal.{Refusal}
-use Rattle.rules.specs.declared.Refusal.the-variants.{TableMark, TableWrong, RecordMark, RecordLength, RecordFields, RecordLimits, CancelsNothing, ShortBuffer, BadHeads}
+use Rattle.rules.specs.declared.Refusal.the-variants.{TableMark, TableWrong, RecordMark, RecordLength, RecordFields, RecordLimits, CancelsNothing, ShortBuffer, BadHeads, ListDamaged, TooManySegments, NoSuchSegment}
 use Rattle.rules.specs.declared.Answer.{Answer}
 use Rattle.rules.specs.declared.Answer.the-variants.{Written, Nothing}
 use Rattle.rules.specs.declared.Reading.{Reading}
@@ -19,7 +19,7 @@ use Rattle.rules.proofs.OutcomeLaws.{number-positive}
 -- the refusal with a number; none has 0
 numbered : ℕ → Refusal
 numbered n =
-    getD (TableMark ∷ TableMark ∷ TableWrong ∷ RecordMark ∷ RecordLength ∷ RecordFields ∷ RecordLimits ∷ CancelsNothing ∷ ShortBuffer ∷ BadHeads ∷ []) n TableMark
+    getD (TableMark ∷ TableMark ∷ TableWrong ∷ RecordMark ∷ RecordLength ∷ RecordFields ∷ RecordLimits ∷ CancelsNothing ∷ ShortBuffer ∷ BadHeads ∷ ListDamaged ∷ TooManySegments ∷ NoSuchSegment ∷ []) n TableMark
 
 numbered-number : (x : Refusal) → numbered (numberOf x) ≡ x
 unfolding numbered
@@ -32,6 +32,9 @@ numbered-number RecordLimits = refl
 numbered-number CancelsNothing = refl
 numbered-number ShortBuffer = refl
 numbered-number BadHeads = refl
+numbered-number ListDamaged = refl
+numbered-number TooManySegments = refl
+numbered-number NoSuchSegment = refl
 
 pub number-injective : (x y : Refusal) → numberOf x ≡ numberOf y → x ≡ y
 number-injective x y e = sym (numbered-number x) ∙ ap numbered e ∙ numbered-number y

@@ -10,7 +10,7 @@ use Rattle.rules.specs.Refusals.{numberOf, recordVerdict, writeVerdict, 
 use Rattle.rules.specs.Applied.{Filled, fill, built, written, noRequest, reading, readOf, outcome, applied}
 use Rattle.rules.specs.declared.Request.{Request}
 use Rattle.rules.specs.declared.Refusal.{Refusal}
-use Rattle.rules.specs.declared.Refusal.the-variants.{TableMark, TableWrong, RecordMark, RecordLength, RecordFields, RecordLimits, CancelsNothing, ShortBuffer, BadHeads}
+use Rattle.rules.specs.declared.Refusal.the-variants.{TableMark, TableWrong, RecordMark, RecordLength, RecordFields, RecordLimits, CancelsNothing, ShortBuffer, BadHeads, ListDamaged, TooManySegments, NoSuchSegment}
 use Rattle.rules.specs.declared.Verdict.{Verdict}
 use Rattle.rules.specs.declared.Verdict.the-variants.{Accepted, Refused}
 
@@ -24,10 +24,13 @@ number-positive RecordLimits = omega arith
 number-positive CancelsNothing = omega arith
 number-positive ShortBuffer = omega arith
 number-positive BadHeads = omega arith
+number-positive ListDamaged = omega arith
+number-positive TooManySegments = omega arith
+number-positive NoSuchSegment = omega arith
 
 -- ---- a buffer that is filled
 
-fill-accepted : (v : Verdict) (bs buffer : List ℕ) → fill v bs buffer .number ≡ 0 → v ≡ Accepted
+pub fill-accepted : (v : Verdict) (bs buffer : List ℕ) → fill v bs buffer .number ≡ 0 → v ≡ Accepted
 unfolding fill
 fill-accepted Accepted bs buffer e = refl
 fill-accepted (Refused x) bs buffer e = absurd (omega (arith, number-positive x))

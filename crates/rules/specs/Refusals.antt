@@ -12,13 +12,13 @@ use Rattle.rules.specs.Record.{requestOf, zeroByte, itemCount, itemsOf, 
 use Rattle.rules.specs.Answer.{roomFor}
 use Rattle.rules.specs.declared.Request.{Request}
 use Rattle.rules.specs.declared.Refusal.{Refusal}
-use Rattle.rules.specs.declared.Refusal.the-variants.{TableMark, TableWrong, RecordMark, RecordLength, RecordFields, RecordLimits, CancelsNothing, ShortBuffer, BadHeads}
+use Rattle.rules.specs.declared.Refusal.the-variants.{TableMark, TableWrong, RecordMark, RecordLength, RecordFields, RecordLimits, CancelsNothing, ShortBuffer, BadHeads, ListDamaged, TooManySegments, NoSuchSegment}
 use Rattle.rules.specs.declared.Verdict.{Verdict}
 use Rattle.rules.specs.declared.Verdict.the-variants.{Accepted, Refused}
 use Rattle.rules.specs.declared.Answer.{Answer}
 use Rattle.rules.specs.declared.Answer.the-variants.{Written, Nothing}
 
--- ---- numbers
+-- ---- numbers: 10 to 12 are those of a list of segments (crate segments)
 
 abbrev pub numberOf : Refusal → ℕ
 numberOf TableMark = 1
@@ -30,6 +30,9 @@ numberOf RecordLimits = 6
 numberOf CancelsNothing = 7
 numberOf ShortBuffer = 8
 numberOf BadHeads = 9
+numberOf ListDamaged = 10
+numberOf TooManySegments = 11
+numberOf NoSuchSegment = 12
 
 abbrev pub verdictNumber : Verdict → ℕ
 verdictNumber Accepted = 0

@@ -39,7 +39,7 @@ pub struct Request {
     pub sib: u8,
 }
 
-// Document 01's numbered refusals, in its order.
+// The numbered refusals, in the order of their numbers: document 01's nine, then those of a list of segments (document 02).
 pub enum Refusal {
     TableMark,
     TableWrong,
@@ -50,6 +50,9 @@ pub enum Refusal {
     CancelsNothing,
     ShortBuffer,
     BadHeads,
+    ListDamaged,
+    TooManySegments,
+    NoSuchSegment,
 }
 
 impl Refusal {
@@ -66,6 +69,9 @@ impl Refusal {
             Refusal::CancelsNothing => 7,
             Refusal::ShortBuffer => 8,
             Refusal::BadHeads => 9,
+            Refusal::ListDamaged => 10,
+            Refusal::TooManySegments => 11,
+            Refusal::NoSuchSegment => 12,
         }
     }
 }
