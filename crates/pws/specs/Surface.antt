@@ -4,8 +4,10 @@ use Prim.Native.Nat.{ℕ}
 use Rattle.rules.specs.Refusals.{answerNumber, answerLength}
 use Rattle.rules.specs.Applied.{Filled, ReadOutcome, Outcome}
 use Rattle.rules.specs.declared.Answer.{Answer}
+use Rattle.segments.specs.Segments.{Lies}
 use Rattle.pws.specs.declared.PwsDone.{PwsDone}
 use Rattle.pws.specs.declared.PwsReading.{PwsReading}
+use Rattle.pws.specs.declared.PwsPart.{PwsPart}
 
 abbrev pub doneBy : Answer → PwsDone
 doneBy x = record { number = answerNumber x; length = answerLength x }
@@ -20,3 +22,6 @@ left d table answer = record { number = d .number; length = d .length; table = t
 
 abbrev pub readTo : PwsReading → ReadOutcome
 readTo r = record { number = r .number; request = r .request; items = r .items }
+
+abbrev pub lies : PwsPart → Lies
+lies p = record { number = p .number; buffer = p .buffer; start = p .start; length = p .length }

@@ -1,12 +1,14 @@
 // The C surface: numbers and byte slices in, numbers out. Each function hands its buffers to the crate that does the work.
 ghost use mathlib.Core.Path.{_≡_};
 ghost use Rattle.rules.specs.Applied.{built, written, readOf, itemAt, applied, noRequest};
-ghost use Rattle.pws.specs.Surface.{doneBy, filled, readTo, left};
+ghost use Rattle.segments.specs.Segments.{liesAt, packed};
+ghost use Rattle.pws.specs.Surface.{doneBy, filled, readTo, lies, left};
 use rules::Answer;
 use rules::Broadcasts;
 use rules::Reading;
 use rules::Request;
 use rules::Seconds;
+use segments::read::Part;
 
 // 0 and the length written, or a refusal's number and 0.
 #[repr(C)]
@@ -21,6 +23,16 @@ pub struct PwsReading {
     pub number: u32,
     pub request: Request,
     pub items: usize,
+}
+
+// 0, the buffer in which a segment lies (0 the first, 1 the list), where it starts there and its length; or a refusal's number, and
+// everything else 0.
+#[repr(C)]
+pub struct PwsPart {
+    pub number: u32,
+    pub buffer: u32,
+    pub start: usize,
+    pub length: usize,
 }
 
 fn done(answer: Answer) -> PwsDone
@@ -76,6 +88,39 @@ pub extern "C" fn pws_item(req: &[u8], k: usize) -> u64
     ensures { λ r. ⌜ r ≡ itemAt (now (req .entry)) k ⌝ }
 {
     record::read::item(req, k)
+}
+
+#[no_mangle]
+pub extern "C" fn pws_segment(first: &[u8], more: &[u8], k: usize) -> PwsPart
+    ensures { λ r. ⌜ lies r ≡ liesAt (now (first .entry)) (now (more .entry)) k ⌝ }
+{
+    match segments::read::locate(first, more, k) {
+        Part::First(length) => PwsPart {
+            number: 0,
+            buffer: 0,
+            start: 0,
+            length,
+        },
+        Part::Listed(start, length) => PwsPart {
+            number: 0,
+            buffer: 1,
+            start,
+            length,
+        },
+        Part::Nothing(refusal) => PwsPart {
+            number: refusal.number(),
+            buffer: 0,
+            start: 0,
+            length: 0,
+        },
+    }
+}
+
+#[no_mangle]
+pub extern "C" fn pws_pack(bytes: &[u8], lengths: &[u64], list: &mut [u8]) -> PwsDone
+    ensures { λ r. ⌜ filled r (now (list .exit)) ≡ packed (now (bytes .entry)) (now (lengths .entry)) (now (list .entry)) ⌝ }
+{
+    done(segments::pack::pack(bytes, lengths, list))
 }
 
 // No request: what the reader returns with a refusal.
