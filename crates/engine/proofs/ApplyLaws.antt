@@ -31,7 +31,7 @@ use Rattle.rules.proofs.VerdictLaws.{AllowedRequest, request-accepted, KnownKin
 use Rattle.rules.proofs.StartLaws.{write-limits, new-sound}
 use Rattle.rules.proofs.AppliedLaws.{AcceptedCall, call-accepted, record-fits, length-answerHead, length-answerBytes, length-rowBytes, answer-fits, applied-table, applied-answer}
 use Rattle.rules.proofs.AppliedRuns.{applied-by-runs, rows-of-runs, idle-cells, idle-answer}
-use Rattle.engine.specs.Step.{ToStep}
+use Rattle.routines.specs.Step.{ToStep}
 use Rattle.engine.specs.Walk.{rowsAfter, tableAfter, isIdle, WalkOut, Granted}
 
 -- ---- the tests

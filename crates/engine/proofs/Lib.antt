@@ -1,17 +1,6 @@
 pub mod Searching
 pub mod Walking
-pub mod Passes
 pub mod WalkFacts
 pub mod HeadLaws
 pub mod ApplyLaws
-pub mod Passing
-pub mod Closing
-pub mod Airing
-pub mod Ticking
-pub mod RowsLaws
-pub mod TextLaws
-pub mod StopLaws
-pub mod ReadyLaws
-pub mod StartLaws
-pub mod KindLaws
 pub mod Once

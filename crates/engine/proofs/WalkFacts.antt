@@ -33,7 +33,7 @@ use Rattle.rules.proofs.RecordTrips.{record-accepted}
 use Rattle.rules.proofs.AppliedLaws.{call-accepted}
 use Rattle.cell.specs.Places.{livePlaces, withPlaces}
 use Rattle.cell.proofs.PlacesLaws.{withPlaces-cell}
-use Rattle.engine.specs.Step.{rowsBytes, Ready, Stepped}
+use Rattle.routines.specs.Step.{rowsBytes, Ready, Stepped}
 use Rattle.engine.specs.Reach.{namedBy}
 use Rattle.engine.specs.declared.reach.Naming.{Naming}
 use Rattle.engine.specs.Walk.{rowsAfter, tableAfter, WalkIn, SecondIn}

@@ -1,5 +1,2 @@
-pub mod Step
 pub mod Reach
 pub mod Walk
-pub mod Stop
-pub mod Second

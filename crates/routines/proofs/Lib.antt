@@ -1,0 +1,12 @@
+pub mod Passes
+pub mod Passing
+pub mod Closing
+pub mod Airing
+pub mod Ticking
+pub mod RowsLaws
+pub mod TextLaws
+pub mod StopLaws
+pub mod ReadyLaws
+pub mod StartLaws
+pub mod KindLaws
+pub mod Once

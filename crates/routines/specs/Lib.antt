@@ -1,0 +1,3 @@
+pub mod Step
+pub mod Stop
+pub mod Second
