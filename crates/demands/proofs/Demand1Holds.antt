@@ -4,6 +4,8 @@ use mathlib.Core.Path.{_≡_, refl, ap, _∙_}
 use Rattle.octets.proofs.Once.{one-outcome}
 use Rattle.rules.specs.Applied.{Filled, ReadOutcome, Outcome, itemAt}
 use Rattle.rules.proofs.OutcomeLaws.{built-refused, written-refused, read-refused, applied-refused}
+use Rattle.segments.specs.Segments.{Lies}
+use Rattle.segments.proofs.Refused.{lies-refused, packed-refused}
 use Rattle.demands.specs.Demand1.{Demand1, OneOutcome}
 
 -- ---- field by field
@@ -38,6 +40,18 @@ table-left e = ap (λ (f : Outcome). f .table) e
 answer-left : {x y : Outcome} → x ≡ y → x .answer ≡ y .answer
 answer-left e = ap (λ (f : Outcome). f .answer) e
 
+number-lies : {x y : Lies} → x ≡ y → x .number ≡ y .number
+number-lies e = ap (λ (p : Lies). p .number) e
+
+buffer-lies : {x y : Lies} → x ≡ y → x .buffer ≡ y .buffer
+buffer-lies e = ap (λ (p : Lies). p .buffer) e
+
+start-lies : {x y : Lies} → x ≡ y → x .start ≡ y .start
+start-lies e = ap (λ (p : Lies). p .start) e
+
+length-lies : {x y : Lies} → x ≡ y → x .length ≡ y .length
+length-lies e = ap (λ (p : Lies). p .length) e
+
 -- ---- a refusal changes nothing
 
 pub demand-1 : Demand1
@@ -56,6 +70,12 @@ demand-1 =
           let x = read-refused req (λ z. h (number-read p ∙ z)) in
           (request-read p ∙ x .0, items-read p ∙ x .1);
       item-answers = λ req k. (itemAt req k, refl);
+      segment-refuses = λ first more k p e h.
+          let x = lies-refused first more k (λ z. h (number-lies e ∙ z)) in
+          (buffer-lies e ∙ x .0, start-lies e ∙ x .1, length-lies e ∙ x .2);
+      pack-refuses = λ bytes lengths list d list′ p h.
+          let x = packed-refused bytes lengths list (λ z. h (number-filled p ∙ z)) in
+          (length-filled p ∙ x .0, buffer-filled p ∙ x .1);
     }
 
 -- ---- one outcome only
@@ -76,4 +96,10 @@ one-outcome-only =
           let o = one-outcome p q in
           (number-filled o, length-filled o, buffer-filled o);
       item-once = λ req k m n p q. one-outcome p q;
+      segment-once = λ first more k p q a b.
+          let o = one-outcome a b in
+          (number-lies o, buffer-lies o, start-lies o, length-lies o);
+      pack-once = λ bytes lengths list d e list′ list″ p q.
+          let o = one-outcome p q in
+          (number-filled o, length-filled o, buffer-filled o);
     }

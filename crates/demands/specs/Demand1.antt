@@ -5,11 +5,13 @@ use mathlib.Core.List.{List}
 use Prim.Native.Nat.{ℕ}
 use Rattle.rules.specs.Applied.{built, written, readOf, itemAt, applied, noRequest}
 use Rattle.rules.specs.declared.Request.{Request}
-use Rattle.pws.specs.Surface.{filled, left, readTo}
+use Rattle.segments.specs.Segments.{liesAt, packed}
+use Rattle.pws.specs.Surface.{filled, left, lies, readTo}
 use Rattle.pws.specs.declared.PwsDone.{PwsDone}
 use Rattle.pws.specs.declared.PwsReading.{PwsReading}
+use Rattle.pws.specs.declared.PwsPart.{PwsPart}
 
--- ---- the five promises: the arguments, then what is returned and what stands in the lent buffers afterwards
+-- ---- the seven promises: the arguments, then what is returned and what stands in the lent buffers afterwards
 
 abbrev pub BuildPromise : (heads table : List ℕ) → PwsDone → List ℕ → Type 0
 BuildPromise heads table d table′ = filled d table′ ≡ built heads table
@@ -26,6 +28,12 @@ WritePromise request items buffer d buffer′ = filled d buffer′ ≡ written r
 abbrev pub ItemPromise : (req : List ℕ) (k : ℕ) → ℕ → Type 0
 ItemPromise req k n = n ≡ itemAt req k
 
+abbrev pub SegmentPromise : (first more : List ℕ) (k : ℕ) → PwsPart → Type 0
+SegmentPromise first more k p = lies p ≡ liesAt first more k
+
+abbrev pub PackPromise : (bytes lengths list : List ℕ) → PwsDone → List ℕ → Type 0
+PackPromise bytes lengths list d list′ = filled d list′ ≡ packed bytes lengths list
+
 -- ---- THE CLAIM: a refusal changes nothing
 
 -- whatever the bytes, and whatever is returned and left under the promise
@@ -41,6 +49,11 @@ pub record Demand1 : Type 0 where
       → (d .number ≡ 0 → ⊥) → (d .request ≡ noRequest) × (d .items ≡ 0)
   -- an item is a number whatever the bytes and the index; it is never refused, and nothing is written
   pub item-answers : (req : List ℕ) (k : ℕ) → (n : ℕ) × ItemPromise req k n
+  -- looking for a segment writes nothing; a refusal comes with an empty part
+  pub segment-refuses : (first more : List ℕ) (k : ℕ) (p : PwsPart) → SegmentPromise first more k p
+      → (p .number ≡ 0 → ⊥) → (p .buffer ≡ 0) × (p .start ≡ 0) × (p .length ≡ 0)
+  pub pack-refuses : (bytes lengths list : List ℕ) (d : PwsDone) (list′ : List ℕ) → PackPromise bytes lengths list d list′
+      → (d .number ≡ 0 → ⊥) → (d .length ≡ 0) × (list′ ≡ list)
 
 -- ---- THE CLAIM: one outcome only
 
@@ -58,3 +71,8 @@ pub record OneOutcome : Type 0 where
       → WritePromise request items buffer d buffer′ → WritePromise request items buffer e buffer″
       → (d .number ≡ e .number) × (d .length ≡ e .length) × (buffer′ ≡ buffer″)
   pub item-once : (req : List ℕ) (k m n : ℕ) → ItemPromise req k m → ItemPromise req k n → m ≡ n
+  pub segment-once : (first more : List ℕ) (k : ℕ) (p q : PwsPart) → SegmentPromise first more k p → SegmentPromise first more k q
+      → (p .number ≡ q .number) × (p .buffer ≡ q .buffer) × (p .start ≡ q .start) × (p .length ≡ q .length)
+  pub pack-once : (bytes lengths list : List ℕ) (d e : PwsDone) (list′ list″ : List ℕ)
+      → PackPromise bytes lengths list d list′ → PackPromise bytes lengths list e list″
+      → (d .number ≡ e .number) × (d .length ≡ e .length) × (list′ ≡ list″)

@@ -107,8 +107,8 @@ pub extern "C" fn pws_segment(first: &[u8], more: &[u8], k: usize) -> PwsPart
             start,
             length,
         },
-        Part::Nothing(refusal) => PwsPart {
-            number: refusal.number(),
+        Part::Nothing(why) => PwsPart {
+            number: why.number(),
             buffer: 0,
             start: 0,
             length: 0,

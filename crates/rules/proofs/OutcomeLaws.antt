@@ -35,7 +35,7 @@ unfolding fill
 fill-accepted Accepted bs buffer e = refl
 fill-accepted (Refused x) bs buffer e = absurd (omega (arith, number-positive x))
 
-fill-refused : (v : Verdict) (bs buffer : List ℕ) → (fill v bs buffer .number ≡ 0 → ⊥) → (fill v bs buffer .length ≡ 0) × (fill v bs buffer .buffer ≡ buffer)
+pub fill-refused : (v : Verdict) (bs buffer : List ℕ) → (fill v bs buffer .number ≡ 0 → ⊥) → (fill v bs buffer .length ≡ 0) × (fill v bs buffer .buffer ≡ buffer)
 unfolding fill
 fill-refused Accepted bs buffer h = absurd (h refl)
 fill-refused (Refused x) bs buffer h = (refl, refl)

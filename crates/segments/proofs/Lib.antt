@@ -6,3 +6,4 @@ pub mod PackLaws
 pub mod Packing
 pub mod Once
 pub mod Trips
+pub mod Refused

@@ -15,8 +15,8 @@ enum-known-length c = search needs
 enum-known-start : tie.Need-enum-known-start
 enum-known-start c = search needs
 
-enum-known-refusal : tie.Need-enum-known-refusal
-enum-known-refusal c = search needs
+enum-known-why : tie.Need-enum-known-why
+enum-known-why c = search needs
 
 number-requires : tie.Need-number-requires
 number-requires c κs = search needs
@@ -28,7 +28,7 @@ returns-2 : tie.Need-returns-2
 returns-2 c = ap liesBy (sym (c .before .start .given .1)) ∙ c .before .before .before .locate .ensures
 
 returns-3 : tie.Need-returns-3
-returns-3 c = rw (c .number .ensures) (ap liesBy (sym (c .before .before .refusal .given .1)) ∙ c .before .before .before .before .locate .ensures)
+returns-3 c = rw (c .number .ensures) (ap liesBy (sym (c .before .before .why .given .1)) ∙ c .before .before .before .before .locate .ensures)
 
 pub pws-segment-spec : {M : Type 1} → statement M
 pws-segment-spec =
@@ -37,7 +37,7 @@ pws-segment-spec =
     locate-requires
     enum-known-length
     enum-known-start
-    enum-known-refusal
+    enum-known-why
     number-requires
     returns
     returns-2
