@@ -46,6 +46,13 @@ impl<'a> Fields<'a> {
         self.array().map(u64::from_be_bytes)
     }
 
+    /// The next bytes as they lie.
+    pub fn part(&mut self, length: usize) -> Option<&'a [u8]> {
+        let (part, rest) = self.rest.split_at_checked(length)?;
+        self.rest = rest;
+        Some(part)
+    }
+
     /// What lies behind the fields taken so far.
     pub fn rest(&self) -> &'a [u8] {
         self.rest
@@ -124,6 +131,9 @@ mod tests {
         assert_eq!(fields.u64(), Some(5));
         assert_eq!(fields.rest(), [0, 0]);
         assert_eq!(fields.u24(), None);
+        assert_eq!(fields.part(3), None);
+        assert_eq!(fields.part(2), Some(&[0, 0][..]));
+        assert_eq!(fields.part(0), Some(&[][..]));
     }
 
     #[test]

@@ -1,6 +1,6 @@
-//! A second implementation of document 01, written from the document alone, so that the first one
-//! can be compared with it. Bytes are decoded into cells, places, requests and rows, the rules work
-//! on these, and what changed is encoded again.
+//! A second implementation of document 01 and of document 02's texts in segments, written from the
+//! documents alone, so that the first one can be compared with it. Bytes are decoded into cells,
+//! places, requests and rows, the rules work on these, and what changed is encoded again.
 
 #![forbid(unsafe_code)]
 
@@ -15,6 +15,7 @@ mod record;
 mod refusal;
 mod report;
 pub mod request;
+mod segments;
 mod table;
 pub mod text;
 
@@ -27,4 +28,5 @@ pub use record::{item, read, write, Reading, Record};
 pub use refusal::{Done, Refusal};
 pub use report::report;
 pub use request::Request;
+pub use segments::{pack, segment};
 pub use table::{build, Table};

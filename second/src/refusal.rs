@@ -1,6 +1,7 @@
-//! The nine refusals, and the outcome that a call hands back.
+//! The refusals, and the outcome that a call hands back.
 
-/// "No. | Given exactly when": the discriminant is document 01's number.
+/// "No. | Given exactly when": the discriminant is the number that document 01 gives, and from 10 on
+/// document 02.
 #[derive(Clone, Copy, Debug, PartialEq, Eq)]
 pub enum Refusal {
     TableMark = 1,
@@ -12,6 +13,9 @@ pub enum Refusal {
     CancelOfNothing = 7,
     Room = 8,
     Heads = 9,
+    ListDamaged = 10,
+    TooManySegments = 11,
+    NoSuchSegment = 12,
 }
 
 impl Refusal {
