@@ -11,8 +11,9 @@ mod pws;
 
 use comparison::broken::broken_units;
 use comparison::call::Call;
-use comparison::cases::Cases;
+use comparison::cases::{Cases, Compared};
 use comparison::compare::{Compare, Difference};
+use comparison::lists::{wrong_lists, wrong_packings};
 use comparison::reorder::{reorder, Reordered};
 use comparison::unit::{Functions, Unit, SOUND};
 use comparison::wrong_tables::WrongTables;
@@ -20,19 +21,24 @@ use given::heads::heads;
 use given::random::{say, seed, Random};
 use given::wrong_records::WrongRecords;
 use second::request::SECOND;
-use second::{apply, build, read, Answer, Cell, Record, Request, Table};
+use second::{apply, build, pack, read, segment, Answer, Cell, Record, Refusal, Request, Table};
 
 const CALLS: u64 = 300_000;
+const CALLS_ON_SEGMENTS: u64 = 60_000;
 /// A single fault must show within so many calls.
 const CALLS_TO_FIND_A_FAULT: u64 = 30_000;
 const SEQUENCES: usize = 2_000;
 
 type Named<'a> = (&'a str, &'a dyn Unit);
+/// Makes at least so many calls.
+type Run = fn(&mut Cases, u64) -> Compared;
+const DOCUMENT_01: Run = |cases, calls| cases.run(calls);
+const SEGMENTS: Run = |cases, calls| cases.run_segments(calls);
 
 /// How many calls were made, and the first difference if there is one.
-fn compared(units: [Named; 2], seed: u64, calls: u64) -> (u64, Result<(), Difference>) {
+fn compared(run: Run, units: [Named; 2], seed: u64, calls: u64) -> (u64, Compared) {
     let mut cases = Cases { compare: Compare::new(units), random: Random::new(seed) };
-    let outcome = cases.run(calls);
+    let outcome = run(&mut cases, calls);
     (cases.compare.calls, outcome)
 }
 
@@ -47,8 +53,16 @@ fn keeps_demand_3(unit: &dyn Unit, seed: u64) -> Result<Reordered, Difference> {
 }
 
 fn assert_agrees(name: &str, unit: &dyn Unit) {
+    assert_agrees_in(name, DOCUMENT_01, unit, CALLS);
+}
+
+fn assert_agrees_on_segments(name: &str, unit: &dyn Unit) {
+    assert_agrees_in(&format!("{name}, segments"), SEGMENTS, unit, CALLS_ON_SEGMENTS);
+}
+
+fn assert_agrees_in(name: &str, run: Run, unit: &dyn Unit, calls: u64) {
     let seed = seed(name);
-    let (calls, outcome) = compared([("second", &SOUND), (name, unit)], seed, CALLS);
+    let (calls, outcome) = compared(run, [("second", &SOUND), (name, unit)], seed, calls);
     say(&format!("{name}: {calls} calls compared"));
     if let Err(difference) = outcome {
         panic!("{difference}");
@@ -68,6 +82,11 @@ fn second_agrees_with_itself() {
 }
 
 #[test]
+fn segments_of_second_agree_with_itself() {
+    assert_agrees_on_segments("second", &SOUND);
+}
+
+#[test]
 fn second_keeps_demand_3() {
     assert_keeps_demand_3("second", &SOUND);
 }
@@ -76,6 +95,12 @@ fn second_keeps_demand_3() {
 #[test]
 fn the_c_library_agrees_with_second() {
     assert_agrees("libpws.a", &pws::Pws::default());
+}
+
+#[cfg(pws)]
+#[test]
+fn segments_of_the_c_library_agree_with_second() {
+    assert_agrees_on_segments("libpws.a", &pws::Pws::default());
 }
 
 #[cfg(pws)]
@@ -95,7 +120,7 @@ fn each_single_fault_is_found() {
     let seed = seed("faults");
     for (name, unit) in broken_units() {
         let units: [Named; 2] = [("second", &SOUND), (name, &unit)];
-        let (calls, outcome) = compared(units, seed, CALLS_TO_FIND_A_FAULT);
+        let (calls, outcome) = compared(DOCUMENT_01, units, seed, CALLS_TO_FIND_A_FAULT);
         assert!(outcome.is_err(), "{name}: not found within {calls} calls");
         println!("{name}: found by call {calls}");
     }
@@ -118,7 +143,8 @@ fn a_broken_promise_is_found_where_both_units_break_it() {
         "the record's rest is cleared",
     ] {
         let unit = broken_unit(fault);
-        let (_, outcome) = compared([(fault, &unit), (fault, &unit)], seed, CALLS_TO_FIND_A_FAULT);
+        let units: [Named; 2] = [(fault, &unit), (fault, &unit)];
+        let (_, outcome) = compared(DOCUMENT_01, units, seed, CALLS_TO_FIND_A_FAULT);
         assert!(outcome.is_err(), "{fault}: not found");
     }
 }
@@ -157,6 +183,21 @@ fn each_named_breakage_has_its_refusal() {
 }
 
 #[test]
+fn each_named_breakage_of_a_list_has_its_refusal() {
+    let mut random = Random::new(seed("lists"));
+    for wrong in wrong_lists(&mut random) {
+        for k in [0, 1, 63, 64, usize::MAX] {
+            let number = segment(b"first", &wrong.bytes, k).map_or_else(Refusal::number, |_| 0);
+            assert_eq!(number, wrong.number, "{}, k {k}", wrong.name);
+        }
+    }
+    for wrong in wrong_packings(&mut random) {
+        let done = pack(&wrong.bytes, &wrong.lengths, &mut vec![0; wrong.room]);
+        assert_eq!(done.number, wrong.number, "{}", wrong.name);
+    }
+}
+
+#[test]
 fn a_call_reads_back_from_its_text() {
     let request = Request { kind: 1, content: 7, sib: 8, ..Request::default() };
     for call in [
@@ -165,6 +206,8 @@ fn a_call_reads_back_from_its_text() {
         Call::Read { record: vec![0x50] },
         Call::Write { request, items: vec![1, u64::MAX], record: vec![] },
         Call::Item { record: vec![1; 40], k: usize::MAX },
+        Call::Segment { first: vec![], more: vec![0, 1, 7], k: usize::MAX },
+        Call::Pack { bytes: vec![7], lengths: vec![1, u64::MAX], list: vec![] },
     ] {
         assert_eq!(Call::parse(&call.to_string()), Some(call));
     }

@@ -5,6 +5,7 @@ use std::fmt::{self, Display, Formatter};
 
 use second::{Broadcasts, Done, Reading, Request, Seconds};
 
+use super::part::Part;
 use super::unit::Unit;
 
 #[derive(Clone, Debug, PartialEq, Eq)]
@@ -14,6 +15,8 @@ pub enum Call {
     Read { record: Vec<u8> },
     Write { request: Request, items: Vec<u64>, record: Vec<u8> },
     Item { record: Vec<u8>, k: usize },
+    Segment { first: Vec<u8>, more: Vec<u8>, k: usize },
+    Pack { bytes: Vec<u8>, lengths: Vec<u64>, list: Vec<u8> },
 }
 
 /// What a call returned, and every buffer that it was lent for writing.
@@ -38,6 +41,13 @@ pub enum Outcome {
     Item {
         number: u64,
     },
+    Segment {
+        part: Part,
+    },
+    Packed {
+        done: Done,
+        list: Vec<u8>,
+    },
     /// The unit panicked, or wrote where it was lent nothing for writing.
     Panicked,
 }
@@ -57,6 +67,12 @@ impl Call {
                 Outcome::Written { done: unit.write(&request, &items, &mut record), record }
             }
             Call::Item { record, k } => Outcome::Item { number: unit.item(&record, k) },
+            Call::Segment { first, more, k } => {
+                Outcome::Segment { part: unit.segment(&first, &more, k) }
+            }
+            Call::Pack { bytes, lengths, mut list } => {
+                Outcome::Packed { done: unit.pack(&bytes, &lengths, &mut list), list }
+            }
         }
     }
 
@@ -70,13 +86,16 @@ impl Call {
             }
             ["read", record] => Call::Read { record: bytes(record)? },
             ["write", request, items, record] => {
-                let items = bytes(items)?;
-                let items =
-                    items.chunks(8).map(|item| Some(u64::from_be_bytes(item.try_into().ok()?)));
-                let items = items.collect::<Option<Vec<u64>>>()?;
-                Call::Write { request: parse_request(request)?, items, record: bytes(record)? }
+                let (request, items) = (parse_request(request)?, numbers(items)?);
+                Call::Write { request, items, record: bytes(record)? }
             }
             ["item", record, k] => Call::Item { record: bytes(record)?, k: k.parse().ok()? },
+            ["segment", first, more, k] => {
+                Call::Segment { first: bytes(first)?, more: bytes(more)?, k: k.parse().ok()? }
+            }
+            ["pack", of, lengths, list] => {
+                Call::Pack { bytes: bytes(of)?, lengths: numbers(lengths)?, list: bytes(list)? }
+            }
             _ => return None,
         })
     }
@@ -93,11 +112,17 @@ impl Display for Call {
             }
             Call::Read { record } => write!(formatter, "read {}", hex(record)),
             Call::Write { request, items, record } => {
-                let items: Vec<u8> = items.iter().flat_map(|item| item.to_be_bytes()).collect();
                 let request = request_text(request);
-                write!(formatter, "write {request} {} {}", hex(&items), hex(record))
+                write!(formatter, "write {request} {} {}", hex_of_numbers(items), hex(record))
             }
             Call::Item { record, k } => write!(formatter, "item {} {k}", hex(record)),
+            Call::Segment { first, more, k } => {
+                write!(formatter, "segment {} {} {k}", hex(first), hex(more))
+            }
+            Call::Pack { bytes, lengths, list } => {
+                let lengths = hex_of_numbers(lengths);
+                write!(formatter, "pack {} {lengths} {}", hex(bytes), hex(list))
+            }
         }
     }
 }
@@ -115,6 +140,9 @@ impl Outcome {
             ) => vec![("table", table, their_table), ("answer", answer, their_answer)],
             (Outcome::Written { record, .. }, Outcome::Written { record: theirs, .. }) => {
                 vec![("record", record, theirs)]
+            }
+            (Outcome::Packed { list, .. }, Outcome::Packed { list: theirs, .. }) => {
+                vec![("list", list, theirs)]
             }
             _ => Vec::new(),
         };
@@ -146,6 +174,13 @@ impl Display for Outcome {
                 write!(formatter, "{}\n  record {}", done(written), hex(record))
             }
             Outcome::Item { number } => write!(formatter, "item {number:016x}"),
+            Outcome::Segment { part: Part { number, buffer, start, length, bytes } } => {
+                write!(formatter, "number {number}, buffer {buffer}, start {start}, ")?;
+                write!(formatter, "length {length}\n  part {}", hex(bytes))
+            }
+            Outcome::Packed { done: packed, list } => {
+                write!(formatter, "{}\n  list {}", done(packed), hex(list))
+            }
             Outcome::Panicked => write!(formatter, "panicked"),
         }
     }
@@ -192,4 +227,14 @@ fn bytes(hex: &str) -> Option<Vec<u8>> {
     }
     let digits = hex.as_bytes().chunks(2).map(|pair| std::str::from_utf8(pair).ok());
     digits.map(|pair| u8::from_str_radix(pair?, 16).ok()).collect()
+}
+
+/// Numbers of 64 bits each, as bytes.
+fn hex_of_numbers(numbers: &[u64]) -> String {
+    hex(&numbers.iter().flat_map(|number| number.to_be_bytes()).collect::<Vec<u8>>())
+}
+
+fn numbers(hex: &str) -> Option<Vec<u64>> {
+    let number = |bytes: &[u8]| Some(u64::from_be_bytes(bytes.try_into().ok()?));
+    bytes(hex)?.chunks(8).map(number).collect()
 }

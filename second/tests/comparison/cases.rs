@@ -12,7 +12,7 @@ use crate::given::random::Random;
 use crate::given::records::{in_area, of_kind, one_match, record, KINDS};
 use crate::given::wrong_records::WrongRecords;
 
-type Compared = Result<(), Difference>;
+pub type Compared = Result<(), Difference>;
 
 pub struct Cases<'a> {
     pub compare: Compare<'a>,
@@ -43,11 +43,11 @@ impl Cases<'_> {
     }
 
     /// A buffer exact, one short, empty and longer.
-    fn sizes(&mut self, exact: usize) -> [usize; 5] {
-        [exact, exact - 1, 0, exact + 1, exact + self.random.below(99)]
+    pub(super) fn sizes(&mut self, exact: usize) -> [usize; 5] {
+        [exact, exact.saturating_sub(1), 0, exact + 1, exact + self.random.below(99)]
     }
 
-    fn buffer(&mut self, length: usize) -> Vec<u8> {
+    pub(super) fn buffer(&mut self, length: usize) -> Vec<u8> {
         self.random.bytes(length)
     }
 

@@ -5,7 +5,10 @@ use std::ffi::OsString;
 use std::fs;
 use std::panic::{catch_unwind, AssertUnwindSafe};
 
+use second::Done;
+
 use super::call::{Call, Outcome};
+use super::part::Part;
 use super::promises;
 use super::unit::Unit;
 
@@ -64,6 +67,26 @@ impl<'a> Compare<'a> {
 
     pub fn item(&mut self, record: &[u8], k: usize) -> Result<(), Difference> {
         self.call(Call::Item { record: record.to_vec(), k }).map(drop)
+    }
+
+    pub fn segment(&mut self, first: &[u8], more: &[u8], k: usize) -> Result<Part, Difference> {
+        match self.call(Call::Segment { first: first.to_vec(), more: more.to_vec(), k })? {
+            Outcome::Segment { part } => Ok(part),
+            other => Err(format!("reading a segment had the outcome {other}")),
+        }
+    }
+
+    /// What packing returns, and the buffer as the call leaves it.
+    pub fn pack(
+        &mut self,
+        bytes: &[u8],
+        lengths: &[u64],
+        list: Vec<u8>,
+    ) -> Result<(Done, Vec<u8>), Difference> {
+        match self.call(Call::Pack { bytes: bytes.to_vec(), lengths: lengths.to_vec(), list })? {
+            Outcome::Packed { done, list } => Ok((done, list)),
+            other => Err(format!("packing had the outcome {other}")),
+        }
     }
 }
 

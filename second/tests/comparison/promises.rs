@@ -1,9 +1,10 @@
-//! What document 01 promises of the bytes of every call, whatever happens in a cell: a look of its
+//! What the documents promise of the bytes of every call, whatever happens in a cell: a look of its
 //! own at outcomes on which two units agree.
 
 use second::{Area, Cell, Done, Head, Record, Table};
 
 use super::call::{Call, Outcome};
+use super::part::Part;
 
 /// "A refusal returns its number and length 0, and nothing is written", "bytes beyond it stay",
 /// "Only the 104 bytes of a reached cell may be written".
@@ -22,6 +23,12 @@ pub fn are_kept(call: &Call, outcome: &Outcome) -> bool {
         (_, Outcome::Read { reading }) => {
             let refused = second::Reading { number: reading.number, ..Default::default() };
             reading.number == 0 || *reading == refused
+        }
+        (Call::Pack { list: before, .. }, Outcome::Packed { done, list }) => {
+            rest_stays(done, before, list)
+        }
+        (Call::Segment { first, more, k }, Outcome::Segment { part }) => {
+            lies_where_told(first, more, *k, part)
         }
         (_, outcome) => *outcome != Outcome::Panicked,
     }
@@ -54,4 +61,22 @@ fn unreached_stays(done: &Done, before: &[u8], record: &[u8], after: &[u8]) -> b
     };
     before[..Table::HEADER] == after[..Table::HEADER]
         && cells.cells.iter().zip(parts(before)).zip(parts(after)).all(stays)
+}
+
+/// "A refusal hands back an empty part"; any other is the first buffer, whole, or lies in the list
+/// behind its own length.
+fn lies_where_told(first: &[u8], more: &[u8], k: usize, part: &Part) -> bool {
+    let Part { number, buffer, start, length, bytes } = part;
+    if *number != 0 {
+        return *part == Part::refused(*number);
+    }
+    if k == 0 {
+        return (*buffer, *start, *length) == (0, 0, first.len()) && bytes == first;
+    }
+    let behind_length = |end: usize| {
+        let told = more.get(start.checked_sub(2)?..*start)?;
+        let lengths = [told[0], told[1]].map(usize::from);
+        Some(lengths[0] * 256 + lengths[1] == *length && more.get(*start..end)? == bytes)
+    };
+    *buffer == 1 && start.checked_add(*length).and_then(behind_length) == Some(true)
 }

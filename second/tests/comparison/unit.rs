@@ -1,6 +1,8 @@
-//! The five functions under comparison.
+//! The seven functions under comparison.
 
 use second::{Done, Reading, Request};
+
+use super::part::{self, Part};
 
 pub trait Unit {
     fn build(&self, heads: &[u8], table: &mut [u8]) -> Done;
@@ -8,6 +10,8 @@ pub trait Unit {
     fn read(&self, record: &[u8]) -> Reading;
     fn write(&self, request: &Request, items: &[u64], record: &mut [u8]) -> Done;
     fn item(&self, record: &[u8], k: usize) -> u64;
+    fn segment(&self, first: &[u8], more: &[u8], k: usize) -> Part;
+    fn pack(&self, bytes: &[u8], lengths: &[u64], list: &mut [u8]) -> Done;
 }
 
 /// A unit of plain functions, so that a broken one is this with a function exchanged.
@@ -18,6 +22,8 @@ pub struct Functions {
     pub read: fn(&[u8]) -> Reading,
     pub write: fn(&Request, &[u64], &mut [u8]) -> Done,
     pub item: fn(&[u8], usize) -> u64,
+    pub segment: fn(&[u8], &[u8], usize) -> Part,
+    pub pack: fn(&[u8], &[u64], &mut [u8]) -> Done,
 }
 
 /// The second implementation.
@@ -27,6 +33,8 @@ pub const SOUND: Functions = Functions {
     read: second::read,
     write: second::write,
     item: second::item,
+    segment: part::segment,
+    pack: second::pack,
 };
 
 impl Unit for Functions {
@@ -48,5 +56,13 @@ impl Unit for Functions {
 
     fn item(&self, record: &[u8], k: usize) -> u64 {
         (self.item)(record, k)
+    }
+
+    fn segment(&self, first: &[u8], more: &[u8], k: usize) -> Part {
+        (self.segment)(first, more, k)
+    }
+
+    fn pack(&self, bytes: &[u8], lengths: &[u64], list: &mut [u8]) -> Done {
+        (self.pack)(bytes, lengths, list)
     }
 }

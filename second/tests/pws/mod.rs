@@ -8,6 +8,7 @@ use std::ptr::NonNull;
 
 use second::{Broadcasts, Done, Reading, Request, Seconds};
 
+use crate::comparison::part::Part;
 use crate::comparison::unit::Unit;
 
 #[repr(C)]
@@ -36,6 +37,14 @@ struct PwsReading {
     items: usize,
 }
 
+#[repr(C)]
+struct PwsPart {
+    number: u32,
+    buffer: u32,
+    start: usize,
+    length: usize,
+}
+
 #[rustfmt::skip]
 #[link(name = "pws", kind = "static")]
 extern "C" {
@@ -44,6 +53,8 @@ extern "C" {
     fn pws_read(record: *const u8, record_length: usize) -> PwsReading;
     fn pws_write(request: PwsRequest, items: *const u64, count: usize, record: *mut u8, record_length: usize) -> PwsDone;
     fn pws_item(record: *const u8, record_length: usize, k: usize) -> u64;
+    fn pws_segment(first: *const u8, first_length: usize, more: *const u8, more_length: usize, k: usize) -> PwsPart;
+    fn pws_pack(bytes: *const u8, bytes_length: usize, lengths: *const u64, count: usize, list: *mut u8, list_length: usize) -> PwsDone;
 }
 
 const GUARD: usize = 64;
@@ -170,5 +181,36 @@ impl Unit for Pws {
         let number = unsafe { pws_item(lent.pointer(), record.len(), k) };
         lent.back_unchanged(record);
         number
+    }
+
+    fn segment(&self, first: &[u8], more: &[u8], k: usize) -> Part {
+        let (mut lent_first, mut lent_more) = (self.lend(first), self.lend(more));
+        // SAFETY: as in build.
+        let PwsPart { number, buffer, start, length } = unsafe {
+            pws_segment(lent_first.pointer(), first.len(), lent_more.pointer(), more.len(), k)
+        };
+        lent_first.back_unchanged(first);
+        lent_more.back_unchanged(more);
+        Part { number, buffer, start, length, bytes: Vec::new() }.seen_in(first, more)
+    }
+
+    fn pack(&self, bytes: &[u8], lengths: &[u64], list: &mut [u8]) -> Done {
+        let (mut lent_bytes, mut lent_list) = (self.lend(bytes), self.lend(list));
+        let lent_lengths = lengths.to_vec();
+        // SAFETY: as in write.
+        let packed = unsafe {
+            pws_pack(
+                lent_bytes.pointer(),
+                bytes.len(),
+                lent_lengths.as_ptr(),
+                lengths.len(),
+                lent_list.pointer(),
+                list.len(),
+            )
+        };
+        assert_eq!(lent_lengths, lengths, "lengths lent for reading were written");
+        lent_bytes.back_unchanged(bytes);
+        lent_list.back_into(list);
+        done(packed)
     }
 }
