@@ -10,6 +10,7 @@ mod given;
 mod pws;
 
 use comparison::broken::broken_units;
+use comparison::broken_segments::broken_in_segments;
 use comparison::call::Call;
 use comparison::cases::{Cases, Compared};
 use comparison::compare::{Compare, Difference};
@@ -115,19 +116,35 @@ fn the_c_library_is_skipped() {
     say("libpws.a: SKIPPED, for PWS_LIB_DIR names no folder with a libpws.a");
 }
 
-#[test]
-fn each_single_fault_is_found() {
-    let seed = seed("faults");
-    for (name, unit) in broken_units() {
+fn assert_each_is_found(test: &str, run: Run, broken: Vec<(&str, Functions)>) {
+    let seed = seed(test);
+    for (name, unit) in broken {
         let units: [Named; 2] = [("second", &SOUND), (name, &unit)];
-        let (calls, outcome) = compared(DOCUMENT_01, units, seed, CALLS_TO_FIND_A_FAULT);
+        let (calls, outcome) = compared(run, units, seed, CALLS_TO_FIND_A_FAULT);
         assert!(outcome.is_err(), "{name}: not found within {calls} calls");
         println!("{name}: found by call {calls}");
     }
 }
 
+#[test]
+fn each_single_fault_is_found() {
+    assert_each_is_found("faults", DOCUMENT_01, broken_units());
+}
+
+#[test]
+fn each_single_fault_in_segments_is_found() {
+    assert_each_is_found("faults, segments", SEGMENTS, broken_in_segments());
+}
+
 fn broken_unit(fault: &str) -> Functions {
-    broken_units().into_iter().find(|(name, _)| *name == fault).expect("the fault is listed").1
+    let mut units = broken_units().into_iter().chain(broken_in_segments());
+    units.find(|(name, _)| *name == fault).expect("the fault is listed").1
+}
+
+/// Whether a fault is found where both units have it.
+fn is_found_in_both(run: Run, fault: &str, seed: u64) -> bool {
+    let unit = broken_unit(fault);
+    compared(run, [(fault, &unit), (fault, &unit)], seed, CALLS_TO_FIND_A_FAULT).1.is_err()
 }
 
 #[test]
@@ -142,10 +159,19 @@ fn a_broken_promise_is_found_where_both_units_break_it() {
         "a refused reading has its fields",
         "the record's rest is cleared",
     ] {
-        let unit = broken_unit(fault);
-        let units: [Named; 2] = [(fault, &unit), (fault, &unit)];
-        let (_, outcome) = compared(DOCUMENT_01, units, seed, CALLS_TO_FIND_A_FAULT);
-        assert!(outcome.is_err(), "{fault}: not found");
+        assert!(is_found_in_both(DOCUMENT_01, fault, seed), "{fault}: not found");
+    }
+    for fault in [
+        "a length is little-endian",
+        "the neighbour is read",
+        "a part lies in the other buffer",
+        "the first one is behind a length",
+        "a refused part has a place",
+        "a packed length is little-endian",
+        "the byte behind the list is zeroed",
+        "a refusal clears the list",
+    ] {
+        assert!(is_found_in_both(SEGMENTS, fault, seed), "{fault}: not found");
     }
 }
 

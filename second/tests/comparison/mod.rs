@@ -1,6 +1,8 @@
 //! Two units compared call by call, on given inputs.
 
 pub mod broken;
+mod broken_packings;
+pub mod broken_segments;
 pub mod call;
 pub mod cases;
 pub mod compare;
