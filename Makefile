@@ -44,7 +44,7 @@ VERSIONED = sed 's|@VERSION@|$(shell cat host/VERSION)|'
 
 install: target/staticlib/libpws.a
 	install -d "$(INTO)/include" "$(INTO)/lib/pkgconfig" "$(INTO)/lib/cmake/pws"
-	install -m 644 host/include/pws.h host/include/pws.hpp "$(INTO)/include"
+	install -m 644 host/include/*.h host/include/*.hpp "$(INTO)/include"
 	install -m 644 target/staticlib/libpws.a "$(INTO)/lib"
 	install -m 644 host/pws-config.cmake "$(INTO)/lib/cmake/pws"
 	$(VERSIONED) host/pws-config-version.cmake.in | install -m 644 /dev/stdin "$(INTO)/lib/cmake/pws/pws-config-version.cmake"

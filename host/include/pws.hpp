@@ -5,7 +5,7 @@
 #ifndef PWS_HPP
 #define PWS_HPP
 
-#include "pws.h"
+#include "pws_calls.hpp"
 
 #include <algorithm>
 #include <array>
@@ -13,8 +13,6 @@
 #include <cstdint>
 #include <iterator>
 #include <span>
-#include <string_view>
-#include <type_traits>
 
 namespace pws {
 
@@ -51,36 +49,6 @@ inline constexpr Field ANSWER_KIND{5, 1}, ANSWER_IDENTIFIER{6, 2}, ANSWER_SERIAL
 inline constexpr Field ROW_CELL{0, 8}, ROW_COUNT{8, 2}, ROW_CONTENT{10, 4};
 
 } // namespace layout
-
-enum class Refusal : std::uint32_t {
-    none = 0,
-    table_mark = 1,
-    table_wrong = 2,
-    record_mark = 3,
-    record_length = 4,
-    record_fields = 5,
-    record_limits = 6,
-    cancels_nothing = 7,
-    short_buffer = 8,
-    bad_heads = 9,
-};
-
-constexpr std::string_view text(Refusal refusal) noexcept {
-    switch (refusal) {
-    case Refusal::none: return "accepted";
-    case Refusal::table_mark: return "the table is shorter than 5 bytes, or its mark or version is wrong";
-    case Refusal::table_wrong: return "the table's bytes break a rule of tables";
-    case Refusal::record_mark: return "the record is shorter than 26 bytes, or its mark or version is wrong";
-    case Refusal::record_length: return "the record has more than 512 items, or its length is not that of its items";
-    case Refusal::record_fields:
-        return "the kind is unknown, or does not allow a flag, the area, the item count or a field that is not zero";
-    case Refusal::record_limits: return "the period is above 4095, the SIB kind is not 6 to 8, or an item is too large for its area";
-    case Refusal::cancels_nothing: return "the cancel has neither cancel-all nor a notification";
-    case Refusal::short_buffer: return "the output buffer is too short";
-    case Refusal::bad_heads: return "the heads are not 1 to 512 good heads in ascending order";
-    }
-    return "a number that is no refusal";
-}
 
 enum class Kind : std::uint8_t { write_replace = 1, cancel = 2, restart = 3, failure = 4, second = 5 };
 enum class Area : std::uint8_t { none = 0, cells = 1, tracking_areas = 2, emergency_areas = 3 };
@@ -124,13 +92,6 @@ struct Head {
     std::uint32_t code = 0;
     std::uint8_t used = 0;
     std::array<std::uint32_t, layout::EMERGENCY_AREAS> areas{};
-};
-
-// What a call wrote, the start of its output buffer; nothing if refused.
-struct [[nodiscard]] Done {
-    Refusal refusal{};
-    std::span<std::uint8_t> written{};
-    constexpr explicit operator bool() const noexcept { return refusal == Refusal::none; }
 };
 
 // The fields and the count of items; everything 0 if refused.
@@ -177,15 +138,6 @@ constexpr void put(std::uint64_t number, std::span<std::uint8_t> to, layout::Fie
     for (std::size_t k = 0; k < field.width; ++k) {
         to[field.end() - 1 - k] = static_cast<std::uint8_t>(number >> (8 * k));
     }
-}
-
-template <class Element> Element *lent(std::span<Element> buffer) noexcept {
-    static constinit std::remove_const_t<Element> stand_in{}; // never read or written: its length is 0
-    return buffer.empty() ? &stand_in : buffer.data();
-}
-
-constexpr Done done(pws_done outcome, std::span<std::uint8_t> buffer) noexcept {
-    return {static_cast<Refusal>(outcome.number), buffer.first(outcome.length)};
 }
 
 } // namespace detail

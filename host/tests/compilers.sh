@@ -1,6 +1,6 @@
 #!/usr/bin/env bash
-# The headers compile without a warning: pws.h as C, pws.hpp and the example as C++20 with and without exceptions, by each
-# compiler that is installed.
+# The headers compile without a warning: pws.h as C, each C++ header alone and the example as C++20 with and without
+# exceptions, by each compiler that is installed.
 set -euo pipefail
 cd "$(dirname "$0")/../.."
 . host/tests/check.sh
@@ -14,7 +14,9 @@ for compiler in g++ clang++; do
     check "pws.h, $compiler, C11" "$compiler" -x c -std=c11 "${warnings[@]}" host/include/pws.h
     for language in -fexceptions "-fno-exceptions -fno-rtti"; do
         read -ra flags <<<"-std=c++20 $language"
-        check "pws.hpp alone, $compiler $language" "$compiler" -x c++ "${flags[@]}" "${warnings[@]}" host/include/pws.hpp
+        for header in host/include/*.hpp; do
+            check "$header alone, $compiler $language" "$compiler" -x c++ "${flags[@]}" "${warnings[@]}" "$header"
+        done
         check "the example, $compiler $language" "$compiler" "${flags[@]}" "${warnings[@]}" -Ihost/include host/example/two_yards.cpp
     done
 done

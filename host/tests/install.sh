@@ -10,9 +10,10 @@ rm -rf "$root"
 mkdir -p "$root"
 
 installed() {
-    diff - <(cd "$root/prefix" && find . -type f | sort) <<'END'
+    diff - <(cd "$root/prefix" && find . -type f | LC_ALL=C sort) <<'END'
 ./include/pws.h
 ./include/pws.hpp
+./include/pws_calls.hpp
 ./lib/cmake/pws/pws-config-version.cmake
 ./lib/cmake/pws/pws-config.cmake
 ./lib/libpws.a
