@@ -1,7 +1,7 @@
 /* The proved bookkeeping of public warnings in a radio unit: C surface of libpws.a.
  *
- * All tables, records and answers are byte buffers of the caller's, big-endian, laid out as document 01 says. No function
- * allocates, keeps a pointer, blocks or throws; each comes back for every content and every length of its buffers.
+ * All tables, records, answers and lists are byte buffers of the caller's, big-endian, laid out as documents 01 and 02 say. No
+ * function allocates, keeps a pointer, blocks or throws; each comes back for every content and every length of its buffers.
  *
  * What the caller must see to (nothing else can be asked for):
  *   - a pointer is never null, not even where its length is 0: lend the address of any byte then;
@@ -18,6 +18,10 @@
  *   7  Cancel with neither flag 2 nor flag 4
  *   8  output buffer too short
  *   9  heads: length no multiple of 24, not 1 to 512 of them, a bad head or wrong order
+ *  10  list damaged: it ends inside a length or inside a segment; for the writer, the lengths don't add up to the bytes, or
+ *      one is above 65,535
+ *  11  more than 63 segments in the list
+ *  12  no segment k: the list ends before it
  */
 #ifndef PWS_H
 #define PWS_H
@@ -52,6 +56,15 @@ typedef struct {
     size_t items;
 } pws_reading;
 
+/* 0 and where the segment lies: length bytes from start on, in the buffer first where buffer is 0 and in more where it is 1.
+ * Or a refusal, and everything else 0. */
+typedef struct {
+    uint32_t number;
+    uint32_t buffer;
+    size_t start;
+    size_t length;
+} pws_part;
+
 /* Writes an empty table of heads_length / 24 cells at the start of table: 16 + 104 N bytes, which is the length returned.
  * The bytes behind them stay. Refusals: 9, then 8. */
 pws_done pws_build(const uint8_t *heads, size_t heads_length, uint8_t *table, size_t table_length);
@@ -72,6 +85,23 @@ pws_done pws_write(pws_request request, const uint64_t *items, size_t count, uin
 
 /* The k-th item of a record, counted from 0, as a number; 0 where the record ends before it. */
 uint64_t pws_item(const uint8_t *record, size_t record_length, size_t k);
+
+/* Where segment k of a text lies. Keep the first SIB message in one buffer, as it came, and the additional ones in another, in
+ * the order in which they are broadcast: a list in which each stands behind its length in 2 bytes, back to back. A text without
+ * additional ones has a list of length 0, whose pointer is not null all the same. k = 0 is the first SIB message, whatever its
+ * bytes and however long; k = 1 to 63 are the list's segments.
+ *
+ * To broadcast a text, ask for k = 0, 1, .. until 12. A part is the caller's own bytes, where they are: nothing is copied, and
+ * nothing written. Test the number, not the length: number 0 with length 0 is a segment without bytes, and others may follow.
+ * The whole list is judged for every k, k = 0 too, so a list that is refused gives its number at k = 0, before anything was
+ * broadcast, and one that is not ends with 12 and nothing else. Refusals in this order: 10, 11, 12. */
+pws_part pws_segment(const uint8_t *first, size_t first_length, const uint8_t *more, size_t more_length, size_t k);
+
+/* Packs a list for pws_segment: count segments, whose bytes stand back to back in bytes and whose lengths stand in lengths, at
+ * most 63 of them and each at most 65,535. The first SIB message is not one of them. It writes 2 count + bytes_length bytes at
+ * the start of list, which is the length returned; the bytes behind them stay. Each list has this one packing, and
+ * pws_segment gives its segments back. Refusals in this order: 10, 11, 8. */
+pws_done pws_pack(const uint8_t *bytes, size_t bytes_length, const uint64_t *lengths, size_t count, uint8_t *list, size_t list_length);
 
 #ifdef __cplusplus
 }

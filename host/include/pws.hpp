@@ -6,6 +6,7 @@
 #define PWS_HPP
 
 #include "pws_calls.hpp"
+#include "pws_segments.hpp"
 
 #include <algorithm>
 #include <array>

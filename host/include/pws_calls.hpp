@@ -22,6 +22,9 @@ enum class Refusal : std::uint32_t {
     cancels_nothing = 7,
     short_buffer = 8,
     bad_heads = 9,
+    list_damaged = 10,
+    too_many_segments = 11,
+    no_such_segment = 12,
 };
 
 constexpr std::string_view text(Refusal refusal) noexcept {
@@ -37,6 +40,10 @@ constexpr std::string_view text(Refusal refusal) noexcept {
     case Refusal::cancels_nothing: return "the cancel has neither cancel-all nor a notification";
     case Refusal::short_buffer: return "the output buffer is too short";
     case Refusal::bad_heads: return "the heads are not 1 to 512 good heads in ascending order";
+    case Refusal::list_damaged:
+        return "the list ends inside a length or a segment; or the lengths to pack don't add up to the bytes, or one is above 65535";
+    case Refusal::too_many_segments: return "the list has more than 63 segments";
+    case Refusal::no_such_segment: return "the list ends before the segment asked for";
     }
     return "a number that is no refusal";
 }

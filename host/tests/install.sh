@@ -14,6 +14,7 @@ installed() {
 ./include/pws.h
 ./include/pws.hpp
 ./include/pws_calls.hpp
+./include/pws_segments.hpp
 ./lib/cmake/pws/pws-config-version.cmake
 ./lib/cmake/pws/pws-config.cmake
 ./lib/libpws.a

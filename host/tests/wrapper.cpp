@@ -1,4 +1,4 @@
-// pws.hpp's own behaviour: its texts, sizes, empty spans, heads and rows. What the library behind it does is tested elsewhere.
+// pws.hpp's own behaviour: its texts, sizes, empty spans, heads, rows and parts. What the library behind it does is tested elsewhere.
 #include "check.hpp"
 #include "pws.hpp"
 
@@ -14,6 +14,7 @@ static_assert(!std::is_convertible_v<pws::Seconds, pws::Broadcasts> && !std::is_
 static_assert(!std::is_convertible_v<int, pws::Seconds> && !std::is_convertible_v<int, pws::Broadcasts>);
 static_assert(noexcept(pws::build({}, {})) &&noexcept(pws::apply({}, {}, {})) &&noexcept(pws::read({})));
 static_assert(noexcept(pws::write({}, {}, {})) &&noexcept(pws::item({}, 0)) &&noexcept(pws::text({})));
+static_assert(noexcept(pws::segment({}, {}, 0)) &&noexcept(pws::pack({}, {}, {})) && !std::is_convertible_v<pws::Part, bool>);
 
 static constexpr pws::Request FLOOD{.kind = pws::Kind::write_replace,
                                     .flags = pws::Flags::concurrent,
@@ -29,11 +30,11 @@ static constexpr pws::Request SECOND_PASSES{.kind = pws::Kind::second};
 
 static void texts() {
     std::set<std::string_view> distinct;
-    for (uint32_t number = 0; number <= 10; ++number) {
+    for (uint32_t number = 0; number <= 13; ++number) {
         distinct.insert(pws::text(static_cast<pws::Refusal>(number)));
     }
-    expect(distinct.size() == 11 && !distinct.contains(""), "0, each refusal and a number beyond them have texts of their own");
-    expect(pws::text(static_cast<pws::Refusal>(UINT32_MAX)) == pws::text(static_cast<pws::Refusal>(10)), "numbers beyond share one text");
+    expect(distinct.size() == 14 && !distinct.contains(""), "0, each refusal and a number beyond them have texts of their own");
+    expect(pws::text(static_cast<pws::Refusal>(UINT32_MAX)) == pws::text(static_cast<pws::Refusal>(13)), "numbers beyond share one text");
 }
 
 static void sizes() {
@@ -43,6 +44,9 @@ static void sizes() {
     using enum pws::Kind;
     expect(size(write_replace) == 7180 && size(cancel) == 7180 && size(restart) == 7180 && size(failure) == 7180, "answers take 12 + 14 N");
     expect(size(second) == 28684, "a second's answer takes 12 + 56 N");
+    using namespace pws::layout;
+    expect(pws::list_size(0, 0) == 0 && pws::list_size(MOST_SEGMENTS, MOST_SEGMENTS * LONGEST_SEGMENT) == 63 * 65537,
+           "lists take 2 bytes a segment, and its own");
 }
 
 static void flags() {
@@ -125,6 +129,44 @@ static void rows() {
            "no broadcast, no row");
 }
 
+// Without a pointer there is no byte to hand back, and a part may have none.
+static void empty_texts() {
+    const Bytes first = {1, 2}, list = {0, 0};
+    const std::array<uint64_t, 1> none{0}, one{1};
+    Bytes buffer(4, 0xee);
+    expect(bool(pws::segment({}, {}, 0)) && pws::segment({}, {}, 0).bytes.empty(), "an empty text has its first segment");
+    expect(pws::segment({}, {}, 1).refusal == pws::Refusal::no_such_segment, "and no more");
+    expect(pws::segment(first, {}, 0).bytes.data() == first.data() && pws::segment(first, {}, 0).bytes.size() == 2, "no list");
+    expect(bool(pws::segment({}, list, 1)) && pws::segment({}, list, 1).bytes.data() == list.data() + 2, "no first SIB message");
+    expect(bool(pws::pack({}, {}, {})) && bool(pws::pack({}, {}, buffer)) && pws::pack({}, {}, buffer).written.empty(), "nothing to pack");
+    expect(bool(pws::pack({}, none, buffer)) && pws::pack({}, none, {}).refusal == pws::Refusal::short_buffer, "no bytes to pack");
+    expect(pws::pack(first, {}, buffer).refusal == pws::Refusal::list_damaged, "no lengths");
+    expect(pws::pack({}, one, buffer).refusal == pws::Refusal::list_damaged, "a length without bytes");
+}
+
+// A text is packed once and asked for segment by segment, until there is none.
+static void pack_then_ask() {
+    const Bytes first = {1, 2}, rest = {3, 4, 5};
+    const std::array<uint64_t, 3> lengths{2, 0, 1};
+    Bytes buffer(pws::list_size(3, 3) + 1, 0xee);
+    const pws::Done list = pws::pack(rest, lengths, buffer);
+    expect(bool(list) && list.written.data() == buffer.data() && list.written.size() == 9 && buffer[9] == 0xee, "a list is packed");
+    std::vector<Bytes> asked;
+    for (size_t k = 0; k < 4; ++k) {
+        const pws::Part part = pws::segment(first, list.written, k);
+        expect(bool(part), "segment " + std::to_string(k));
+        asked.emplace_back(part.bytes.begin(), part.bytes.end());
+    }
+    expect(asked == std::vector<Bytes>{{1, 2}, {3, 4}, {}, {5}}, "its segments, in order");
+    const pws::Part beyond = pws::segment(first, list.written, 4);
+    expect(!beyond && beyond.refusal == pws::Refusal::no_such_segment && beyond.bytes.empty(), "until there is none");
+    expect(pws::segment(first, list.written, 0).bytes.data() == first.data() &&
+               pws::segment(first, list.written, 3).bytes.data() == buffer.data() + 8,
+           "parts are the caller's own bytes");
+    const pws::Part damaged = pws::segment(first, buffer, 0);
+    expect(!damaged && damaged.refusal == pws::Refusal::list_damaged && damaged.bytes.empty(), "a refused part is empty");
+}
+
 static void refusals_leave_buffers() {
     Bytes table(pws::table_size(1)), record(pws::record_size(1), 0xee), answer(pws::answer_size(1, pws::Kind::second) - 1, 0xee);
     expect(bool(pws::build(head(FIRST, 1), table)), "a table of one cell");
@@ -139,6 +181,9 @@ static void refusals_leave_buffers() {
     expect(table == table_before && answer == answer_before, "leaves table and answer");
     const pws::Done unbuilt = pws::build(head(uint64_t{1} << 60, 1), table);
     expect(unbuilt.refusal == pws::Refusal::bad_heads && unbuilt.written.empty() && table == table_before, "a refused table");
+    const std::array<uint64_t, 64> many{};
+    const pws::Done unpacked = pws::pack({}, many, table);
+    expect(unpacked.refusal == pws::Refusal::too_many_segments && unpacked.written.empty() && table == table_before, "a refused list");
 }
 
 int main() {
@@ -149,6 +194,8 @@ int main() {
     heads();
     write_then_read();
     rows();
+    empty_texts();
+    pack_then_ask();
     refusals_leave_buffers();
     return report();
 }
