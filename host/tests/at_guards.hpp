@@ -27,12 +27,23 @@ inline Left apply_at(Flush flush, const Bytes &table, const Bytes &record, const
     return {done.number, done.length, {to.bytes(), on.bytes()}, on.alone() && by.alone() && to.alone()};
 }
 
+// Numbers as they lie in memory.
+inline Bytes native(const std::vector<uint64_t> &numbers) {
+    const auto *bytes = reinterpret_cast<const uint8_t *>(numbers.data());
+    return Bytes(bytes, bytes + 8 * numbers.size());
+}
+
 inline Left write_at(Flush flush, const pws_request &request, const std::vector<uint64_t> &items, const Bytes &record) {
-    Bytes native(8 * items.size());
-    std::copy_n(reinterpret_cast<const uint8_t *>(items.data()), native.size(), native.begin());
-    const Guarded from(native, flush, Lent::for_reading), to(record, flush, Lent::for_writing);
+    const Guarded from(native(items), flush, Lent::for_reading), to(record, flush, Lent::for_writing);
     const pws_done done = pws_write(request, reinterpret_cast<const uint64_t *>(from.data()), items.size(), to.data(), to.size());
     return {done.number, done.length, {to.bytes()}, from.alone() && to.alone()};
+}
+
+inline Left pack_at(Flush flush, const Bytes &bytes, const std::vector<uint64_t> &lengths, const Bytes &list) {
+    const Guarded from(bytes, flush, Lent::for_reading), by(native(lengths), flush, Lent::for_reading), to(list, flush, Lent::for_writing);
+    const pws_done done =
+        pws_pack(from.data(), from.size(), reinterpret_cast<const uint64_t *>(by.data()), lengths.size(), to.data(), to.size());
+    return {done.number, done.length, {to.bytes()}, from.alone() && by.alone() && to.alone()};
 }
 
 // Whether a call gave this number and length, the same at both guards, and left what it must: every byte if refused, those
@@ -62,6 +73,10 @@ inline bool apply_gives(uint32_t number, size_t length, const Bytes &table, cons
 inline bool write_gives(uint32_t number, size_t length, const pws_request &request, const std::vector<uint64_t> &items,
                         const Bytes &record) {
     return gave(number, length, write_at(Flush::end, request, items, record), write_at(Flush::front, request, items, record), {record});
+}
+
+inline bool pack_gives(uint32_t number, size_t length, const Bytes &bytes, const std::vector<uint64_t> &lengths, const Bytes &list) {
+    return gave(number, length, pack_at(Flush::end, bytes, lengths, list), pack_at(Flush::front, bytes, lengths, list), {list});
 }
 
 // The fields are compared with the record's own bytes, at the places that document 01 gives them.

@@ -1,4 +1,4 @@
-// Tables and records written byte for byte as document 01 says, without the library.
+// Tables, records and lists written byte for byte as documents 01 and 02 say, without the library.
 #ifndef BY_HAND_HPP
 #define BY_HAND_HPP
 
@@ -59,6 +59,16 @@ inline Bytes record_of(const pws_request &request, const std::vector<uint64_t> &
     put(b, items.size(), 2);
     for (uint64_t item : items) {
         put(b, item, 8);
+    }
+    return b;
+}
+
+// The additional segments of a text, each behind its length.
+inline Bytes list_of(const std::vector<Bytes> &segments) {
+    Bytes b;
+    for (const Bytes &segment : segments) {
+        put(b, segment.size(), 2);
+        b.insert(b.end(), segment.begin(), segment.end());
     }
     return b;
 }

@@ -23,6 +23,15 @@ inline void expect(bool ok, const std::string &what) {
     }
 }
 
+// Expects a claim of every length up to the last.
+template <class Holds> void each_length(size_t last, Holds holds, const std::string &what) {
+    bool ok = true;
+    for (size_t length = 0; length <= last; ++length) {
+        ok &= holds(length);
+    }
+    expect(ok, what);
+}
+
 // The last line of every test program; what it returns is the program's status.
 inline int report() {
     std::printf("%d passed, %d failed\n", passed, failed);

@@ -32,15 +32,6 @@ static void guards() {
     expect(!reads(at_end.data()) && !reads(at_end.data() + 99) && !writes(at_front.data()), "a buffer's own bytes do not");
 }
 
-// Expects a claim of every length up to the last.
-template <class Holds> static void each_length(size_t last, Holds holds, const std::string &what) {
-    bool ok = true;
-    for (size_t length = 0; length <= last; ++length) {
-        ok &= holds(length);
-    }
-    expect(ok, what);
-}
-
 static void builds() {
     const auto heads_cut = [](size_t length) {
         const bool whole = length == 24 || length == 48;
