@@ -7,3 +7,4 @@ pub mod Packing
 pub mod Once
 pub mod Trips
 pub mod Refused
+pub mod SamplesHold

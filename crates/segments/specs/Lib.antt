@@ -1,2 +1,3 @@
 pub mod Segments
 pub mod Within
+pub mod Samples
