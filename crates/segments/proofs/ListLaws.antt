@@ -1,12 +1,12 @@
 -- A list of segments, its bytes and its segments: each is found again from the other, so a list has one packing.
 use mathlib.Core.Path.{_≡_, refl, sym, ap, _∙_}
-use mathlib.Core.Bool.{true, false, cond}
+use mathlib.Core.Bool.{true}
 use mathlib.Core.List.{List, [], _∷_, _++_, flatMap, append-assoc}
-use Prim.Native.Nat.{ℕ, zero, suc, _+_, _-_, _*_, _^_, _<_, _≤_}
+use Prim.Native.Nat.{ℕ, zero, suc, _+_, _-_, _<_, _≤_}
 use native.Mathlib.Omega.{arith}
 use lib.Dec.{leb}
-use lib.ListN.{length, getD, take, drop, length-append, length-drop}
-use lib.Seq.{length-take-le, take-all, take-append-seam, drop-append-seam, take-append-add, drop-append-add, take-at, drop-at, drop-drop, take-add}
+use lib.ListN.{length, take, drop, length-append, length-drop}
+use lib.Seq.{length-take-le, take-all, take-append-seam, take-at, drop-at, take-add}
 use borrow.Author.Tests.{le-leb, lt-leb, leb-true, leb-false, eqb-true, eq-eqb}
 use Rattle.octets.specs.Runs.{Bytes}
 use Rattle.octets.specs.Numbers.{be, toBe}
@@ -14,13 +14,9 @@ use Rattle.octets.proofs.RunsLaws.{bytes-take, bytes-drop}
 use Rattle.octets.proofs.NumbersLaws.{length-toBe, be-toBe, toBe-be}
 use Rattle.rules.proofs.AllLaws.{All, none, more}
 use Rattle.rules.proofs.ListsLaws.{by-test}
-use Rattle.segments.specs.Segments.{lengthSize, longestSegment, segmentBytes, listBytes, firstLength, firstEnd, segmentsIn, segmentsOf, wholeList, startIn}
+use Rattle.segments.specs.Segments.{lengthSize, longestSegment, segmentBytes, listBytes, firstLength, firstEnd, firstOf, segmentsIn, segmentsOf, wholeList}
 
 -- ---- cutting a list of bytes
-
--- the first segment of a list that begins with a whole one
-abbrev pub firstOf : List ℕ → List ℕ
-firstOf l = take (firstLength l) (drop lengthSize l)
 
 pub in-more : (n : ℕ) (l : List ℕ) → firstEnd l ≤ length l → segmentsIn (suc n) l ≡ firstOf l ∷ segmentsIn n (drop (firstEnd l) l)
 unfolding segmentsIn

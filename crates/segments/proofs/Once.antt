@@ -1,5 +1,5 @@
 -- One outcome only: what each public function of this crate returns and leaves, its arguments settle. Of a reference: its bytes and where they lie.
-use mathlib.Core.Path.{_≡_, sym, ap, _∙_}
+use mathlib.Core.Path.{_≡_, ap}
 use mathlib.Core.List.{List}
 use Prim.Native.Nat.{ℕ}
 use native.Mathlib.Omega.{arith}

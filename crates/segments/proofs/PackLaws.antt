@@ -1,24 +1,19 @@
 -- Lengths that fit their bytes, and the list that is packed from them, one segment after the other.
 use mathlib.Core.Path.{_≡_, refl, sym, ap, _∙_}
-use mathlib.Core.Bool.{Bool, true, false, not, _&&_}
-use mathlib.Core.List.{List, [], _∷_, _++_, flatMap}
+use mathlib.Core.Bool.{Bool, true, false, _&&_}
+use mathlib.Core.List.{List, [], _∷_, flatMap}
 use Prim.Native.Nat.{ℕ, suc, _+_, _-_, _*_, _<_, _≤_}
 use native.Mathlib.Omega.{arith}
 use lib.Dec.{eqb, leb}
 use lib.ListN.{length, getD, take, drop, length-append, length-drop, drop-of-length-le}
-use lib.Seq.{sets, length-sets, length-take-le, drop-cons, drop-drop}
+use lib.Seq.{length-take-le, drop-cons}
 use borrow.Author.Tests.{le-leb, lt-leb, leb-true, eq-eqb, ne-eqb, eqb-true, eqb-false}
-use Rattle.octets.proofs.RunsLaws.{sets-run}
 use Rattle.rules.specs.Lists.{every}
-use Rattle.rules.specs.Applied.{Filled, fill, filledBy}
-use Rattle.rules.specs.declared.Answer.the-variants.{Written, Nothing}
-use Rattle.rules.specs.declared.Refusal.{Refusal}
 use Rattle.rules.specs.declared.Refusal.the-variants.{ListDamaged, TooManySegments, ShortBuffer}
 use Rattle.rules.specs.declared.Verdict.the-variants.{Accepted, Refused}
 use Rattle.rules.proofs.ListsLaws.{both, by-test}
-use Rattle.segments.specs.Segments.{lengthSize, longestSegment, mostSegments, segmentBytes, listBytes, total, cutAt, lengthsFit, packVerdict, packed}
-use Rattle.segments.specs.Within.{ToPack}
-use Rattle.segments.proofs.ListLaws.{length-segment, list-cons}
+use Rattle.segments.specs.Segments.{lengthSize, longestSegment, mostSegments, segmentBytes, listBytes, total, cutAt, lengthsFit, packVerdict}
+use Rattle.segments.proofs.ListLaws.{length-segment}
 
 -- ---- lengths, one after the other
 

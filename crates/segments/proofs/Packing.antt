@@ -1,7 +1,7 @@
 -- A list packed segment by segment: what is still to be stored, stored behind what stands there, gives the whole list.
 use mathlib.Core.Path.{_≡_, refl, sym, ap, _∙_}
 use mathlib.Core.Bool.{true}
-use mathlib.Core.List.{List, [], _∷_, _++_, flatMap}
+use mathlib.Core.List.{List, _∷_, _++_, flatMap}
 use Prim.Native.Nat.{ℕ, suc, _+_, _-_, _*_, _<_, _≤_}
 use native.Mathlib.Nat.{add-sub-cancel-left}
 use native.Mathlib.Omega.{arith}
@@ -13,7 +13,7 @@ use Rattle.octets.specs.Numbers.{toBe}
 use Rattle.octets.proofs.NumbersLaws.{length-toBe}
 use Rattle.octets.proofs.RunsLaws.{sets-run}
 use Rattle.rules.specs.Refusals.{refuseUnless, _then_}
-use Rattle.rules.specs.Applied.{Filled, fill, filledBy}
+use Rattle.rules.specs.Applied.{fill, filledBy}
 use Rattle.rules.specs.declared.Answer.the-variants.{Written, Nothing}
 use Rattle.rules.specs.declared.Refusal.{Refusal}
 use Rattle.rules.specs.declared.Refusal.the-variants.{ListDamaged, TooManySegments, ShortBuffer}

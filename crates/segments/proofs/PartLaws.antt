@@ -7,7 +7,7 @@ use native.Mathlib.Nat.{zero-add, add-sub-cancel-left}
 use native.Mathlib.Omega.{arith}
 use lib.Dec.{leb}
 use lib.ListN.{length, getD, take, drop}
-use borrow.Author.Tests.{le-leb, lt-leb, leb-true, eq-eqb, ne-eqb, eqb-true}
+use borrow.Author.Tests.{le-leb, lt-leb, leb-true, eq-eqb, ne-eqb}
 use Rattle.octets.specs.Runs.{Bytes}
 use Rattle.rules.specs.Refusals.{numberOf, refuseUnless, _then_}
 use Rattle.rules.specs.declared.Refusal.{Refusal}
@@ -18,7 +18,6 @@ use Rattle.rules.proofs.OutcomeLaws.{number-positive}
 use Rattle.rules.proofs.VerdictLaws.{then-accepted, unless-accepted}
 use Rattle.segments.specs.Segments.{mostSegments, listBytes, segmentsOf, wholeList, segmentVerdict, segmentOf, Lies, lying, liesAt, liesBy, lentFrom, startIn}
 use Rattle.segments.specs.Within.{Scanned}
-use Rattle.segments.specs.declared.read.Part.{Part}
 use Rattle.segments.specs.declared.read.Part.the-variants.{First, Listed, Nothing}
 use Rattle.segments.specs.declared.read.Pass.{Pass}
 use Rattle.segments.proofs.ListLaws.{packed-segments}

@@ -1,13 +1,10 @@
 -- Where the segments of a list lie in its bytes.
-use mathlib.Core.Path.{_≡_, refl, sym, ap, _∙_}
-use mathlib.Core.Bool.{true}
-use mathlib.Core.List.{List, [], _∷_, _++_, append-assoc, flatMap}
-use Prim.Native.Nat.{ℕ, zero, suc, _+_, _-_, _<_, _≤_}
+use mathlib.Core.Path.{_≡_, ap, _∙_}
+use mathlib.Core.List.{List, [], _∷_, _++_}
+use Prim.Native.Nat.{ℕ, suc, _+_, _-_, _<_, _≤_}
 use native.Mathlib.Omega.{arith}
 use lib.ListN.{length, getD, take, drop, length-append}
-use lib.Seq.{split-at, take-append-seam, drop-append-add, drop-at}
-use Rattle.octets.specs.Numbers.{toBe}
-use Rattle.octets.proofs.NumbersLaws.{length-toBe}
+use lib.Seq.{split-at, drop-append-add}
 use Rattle.segments.specs.Segments.{lengthSize, segmentBytes, listBytes, startIn}
 use Rattle.segments.proofs.ListLaws.{length-segment, list-cons, list-append, behind-length}
 

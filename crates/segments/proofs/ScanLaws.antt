@@ -1,17 +1,17 @@
 -- One pass over a list: between two segments, those that were passed are the first of the list's, and the bytes still to come hold the rest.
 use mathlib.Core.Path.{_≡_, refl, sym, ap, _∙_}
-use mathlib.Core.List.{List, [], _∷_, _++_, flatMap}
-use Prim.Native.Nat.{ℕ, zero, suc, _+_, _-_, _*_, _<_, _≤_}
+use mathlib.Core.List.{List, [], _∷_, flatMap}
+use Prim.Native.Nat.{ℕ, suc, _+_, _-_, _<_, _≤_}
 use native.Mathlib.Omega.{arith}
-use lib.ListN.{length, getD, take, drop, length-append, length-drop}
-use lib.Seq.{length-take-le, take-all, take-suc, drop-cons, drop-drop, drop-nil}
+use lib.ListN.{length, getD, take, drop, length-drop}
+use lib.Seq.{length-take-le, take-all, take-suc, drop-cons, drop-drop}
 use Rattle.octets.specs.Runs.{gets}
 use Rattle.octets.specs.Numbers.{be}
 use Rattle.octets.proofs.RunsLaws.{gets-eq}
-use Rattle.segments.specs.Segments.{lengthSize, firstLength, firstEnd, segmentBytes, listBytes, segmentsOf, startIn}
+use Rattle.segments.specs.Segments.{lengthSize, firstLength, firstEnd, firstOf, listBytes, segmentsOf, startIn}
 use Rattle.segments.specs.Within.{Scanned}
 use Rattle.segments.specs.declared.read.Pass.{Pass}
-use Rattle.segments.proofs.ListLaws.{firstOf, segments-more, segments-none, length-list-more}
+use Rattle.segments.proofs.ListLaws.{segments-more, segments-none, length-list-more}
 
 pub record Scanning (l : List ℕ) (k count end start size : ℕ) : Type 0 where
   pub within : end ≤ length l

@@ -11,19 +11,18 @@ use borrow.Author.Tests.{le-leb, lt-leb, leb-true, leb-false}
 use Rattle.octets.specs.Runs.{Bytes}
 use Rattle.octets.proofs.RunsLaws.{take-sets-front, bytes-take, bytes-drop}
 use Rattle.octets.proofs.NumbersLaws.{be-lt}
-use Rattle.rules.specs.Lists.{every}
 use Rattle.rules.specs.Refusals.{answerNumber, answerLength, numberOf}
 use Rattle.rules.specs.Applied.{Filled, fill, filledBy}
 use Rattle.rules.specs.declared.Answer.{Answer}
 use Rattle.rules.specs.declared.Answer.the-variants.{Written}
 use Rattle.rules.specs.declared.Refusal.the-variants.{NoSuchSegment}
-use Rattle.rules.specs.declared.Verdict.the-variants.{Accepted, Refused}
+use Rattle.rules.specs.declared.Verdict.the-variants.{Accepted}
 use Rattle.rules.proofs.AllLaws.{All, none, more}
 use Rattle.rules.proofs.ListsLaws.{by-test}
 use Rattle.rules.proofs.OnceLaws.{answer-injective}
 use Rattle.rules.proofs.OutcomeLaws.{fill-accepted}
-use Rattle.segments.specs.Segments.{longestSegment, mostSegments, lengthSize, listBytes, firstLength, firstEnd, segmentsIn, segmentsOf, wholeList, segmentVerdict, segmentOf, Lies, lying, liesAt, total, cutAt, lengthsFit, packVerdict, packed}
-use Rattle.segments.proofs.ListLaws.{Sayable, firstOf, in-more, in-none, segments-packed, packed-whole, packed-segments}
+use Rattle.segments.specs.Segments.{mostSegments, lengthSize, listBytes, firstLength, firstEnd, firstOf, segmentsIn, segmentsOf, wholeList, segmentVerdict, segmentOf, lying, liesAt, cutAt, lengthsFit, packVerdict, packed}
+use Rattle.segments.proofs.ListLaws.{Sayable, in-more, in-none, segments-packed, packed-whole, packed-segments}
 use Rattle.segments.proofs.PackLaws.{fit-first, fit-next, fit-none}
 use Rattle.segments.proofs.PartLaws.{AcceptedList, list-accepted, accepted-list, lies-accepted}
 use Rattle.segments.proofs.Packing.{AcceptedPack, pack-says, accepted-pack}

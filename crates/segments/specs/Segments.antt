@@ -35,18 +35,21 @@ segmentBytes s = toBe lengthSize (length s) ++ s
 unfoldable pub listBytes : List (List ℕ) → List ℕ
 listBytes ss = flatMap segmentBytes ss
 
--- the length that a list begins with, and where the segment behind it ends
+-- the length that a list begins with, where the segment behind it ends, and that segment
 unfoldable pub firstLength : List ℕ → ℕ
 firstLength l = be (take lengthSize l)
 
 abbrev pub firstEnd : List ℕ → ℕ
 firstEnd l = lengthSize + firstLength l
 
+abbrev pub firstOf : List ℕ → List ℕ
+firstOf l = take (firstLength l) (drop lengthSize l)
+
 -- the segments that a list begins with, up to the first that is not whole, and n of them at most
 unfoldable pub segmentsIn : ℕ → List ℕ → List (List ℕ)
 segmentsIn zero l = []
 segmentsIn (suc n) l =
-    cond (leb (firstEnd l) (length l)) (take (firstLength l) (drop lengthSize l) ∷ segmentsIn n (drop (firstEnd l) l)) []
+    cond (leb (firstEnd l) (length l)) (firstOf l ∷ segmentsIn n (drop (firstEnd l) l)) []
 
 -- all of them: each has two bytes at least, so there are no more than bytes
 unfoldable pub segmentsOf : List ℕ → List (List ℕ)

@@ -1,6 +1,6 @@
 -- `pws_pack` leaves what `packed` gives.
 -- By what `pack` ensures, its answer said as number and length.
-use mathlib.Core.Path.{_≡_, _∙_, ap}
+use mathlib.Core.Path.{_∙_, ap}
 use Rattle.pws.specs.Surface.{filled}
 use borrow.Author.Needs.{needs}
 use Rattle.pws.proofs.pws_pack.Statement.{statement}

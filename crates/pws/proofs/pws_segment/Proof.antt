@@ -1,6 +1,6 @@
 -- `pws_segment` says where `locate` found the segment.
 -- By the cases of the part.
-use mathlib.Core.Path.{_≡_, sym, _∙_, ap}
+use mathlib.Core.Path.{sym, _∙_, ap}
 use Rattle.segments.specs.Segments.{liesBy}
 use borrow.Author.Needs.{needs}
 use Rattle.pws.proofs.pws_segment.Statement.{statement}

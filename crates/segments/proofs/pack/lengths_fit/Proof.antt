@@ -1,7 +1,6 @@
 -- `lengths_fit` says whether the lengths add up to the bytes and none is too long.
 -- The invariant, `StillToFit`: all of them fit exactly if those still to come fit what is left.
 use Prim.Native.Nat.{_-_}
-use native.Mathlib.Omega.{arith}
 use lib.ListN.{length}
 use borrow.Author.Needs.{needs}
 use Rattle.segments.proofs.PackLaws.{StillToFit, fit-starts, fit-goes, fit-fails-long, fit-fails-many, fit-ends}

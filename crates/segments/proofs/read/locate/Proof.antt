@@ -1,5 +1,4 @@
 -- `locate` says where segment k lies: each refusal and each place by what the pass over the list found.
-use native.Mathlib.Omega.{arith}
 use Rattle.segments.proofs.PartLaws.{part-damaged, part-too-many, part-beyond, part-first, part-listed}
 use borrow.Author.Needs.{needs}
 use Rattle.segments.proofs.read.locate.Statement.{statement}

@@ -1,5 +1,5 @@
 -- `number` is the number that stands with where segment k lies.
-use mathlib.Core.Path.{_≡_, sym, ap, _∙_}
+use mathlib.Core.Path.{sym, ap, _∙_}
 use Rattle.segments.specs.Segments.{Lies, liesBy}
 use borrow.Author.Needs.{needs}
 use Rattle.segments.proofs.read.number.Statement.{statement}

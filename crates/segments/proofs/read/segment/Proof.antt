@@ -1,8 +1,7 @@
 -- `segment` hands back the bytes that `locate` found, where they lie: the first buffer, a part of the list, or nothing.
-use mathlib.Core.Path.{_≡_, sym, ap, _∙_}
+use mathlib.Core.Path.{sym, ap, _∙_}
 use native.Mathlib.Omega.{arith}
 use borrow.Author.Needs.{needs}
-use Rattle.octets.specs.Runs.{Bytes}
 use Rattle.segments.specs.Segments.{liesBy, lentFrom}
 use Rattle.segments.proofs.PartLaws.{hand-first, hand-listed, hand-nothing, listed-within, lent-first, lent-listed}
 use Rattle.segments.proofs.read.segment.Statement.{statement}
