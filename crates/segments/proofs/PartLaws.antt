@@ -1,22 +1,23 @@
 -- From what a pass over the list found to where segment k lies, and from there to the bytes that are handed back.
-use mathlib.Core.Path.{_≡_, refl, sym, ap, _∙_}
-use mathlib.Core.Bool.{true}
-use mathlib.Core.List.{List, [], _∷_}
+use mathlib.Core.Path.{_≡_, refl, sym, ap, subst, _∙_}
+use mathlib.Core.Bool.{true, cond}
+use mathlib.Core.List.{List, []}
 use Prim.Native.Nat.{ℕ, zero, suc, _+_, _-_, _<_, _≤_}
 use native.Mathlib.Nat.{zero-add, add-sub-cancel-left}
 use native.Mathlib.Omega.{arith}
-use lib.Dec.{leb}
+use lib.Dec.{eqb, leb}
 use lib.ListN.{length, getD, take, drop}
+use lib.Seq.{take-length}
 use borrow.Author.Tests.{le-leb, lt-leb, leb-true, eq-eqb, ne-eqb}
 use Rattle.octets.specs.Runs.{Bytes}
-use Rattle.rules.specs.Refusals.{numberOf, refuseUnless, _then_}
+use Rattle.rules.specs.Refusals.{refuseUnless, _then_}
 use Rattle.rules.specs.declared.Refusal.{Refusal}
 use Rattle.rules.specs.declared.Refusal.the-variants.{ListDamaged, TooManySegments, NoSuchSegment}
 use Rattle.rules.specs.declared.Verdict.{Verdict}
 use Rattle.rules.specs.declared.Verdict.the-variants.{Accepted, Refused}
 use Rattle.rules.proofs.OutcomeLaws.{number-positive}
 use Rattle.rules.proofs.VerdictLaws.{then-accepted, unless-accepted}
-use Rattle.segments.specs.Segments.{mostSegments, listBytes, segmentsOf, wholeList, segmentVerdict, segmentOf, Lies, lying, liesAt, liesBy, lentFrom, startIn}
+use Rattle.segments.specs.Segments.{mostSegments, listBytes, segmentsOf, wholeList, segmentVerdict, segmentOf, Lies, lying, liesAt, bytesAt, liesBy, lentFrom, startIn}
 use Rattle.segments.specs.Within.{Scanned}
 use Rattle.segments.specs.declared.read.Part.the-variants.{First, Listed, Nothing}
 use Rattle.segments.specs.declared.read.Pass.{Pass}
@@ -88,6 +89,43 @@ pub accepted-list : (more : List ℕ) (k : ℕ) → AcceptedList more k → segm
 unfolding segmentVerdict
 accepted-list more k a = rw (a .whole, le-leb (length (segmentsOf more)) mostSegments (a .few), le-leb k (length (segmentsOf more)) (a .among))
 
+-- what is told of a segment leads to its bytes, within their buffer
+module _ (first more : List ℕ) (bytes : Bytes more) where
+  inBuffer : Lies → Type 0
+  inBuffer p = p .start + p .length ≤ length (cond (eqb (p .buffer) 0) first more)
+
+  packing : (k : ℕ) → segmentVerdict more k ≡ Accepted → listBytes (segmentsOf more) ≡ more
+  packing k v = packed-segments more bytes (list-accepted more k v .whole)
+
+  told-bytes : (v : Verdict) (k : ℕ) → segmentVerdict more k ≡ v → bytesAt first more (lying v first more k) ≡ segmentOf first more k
+  unfolding lying segmentOf
+  told-bytes (Refused x) k e = rw e
+  told-bytes Accepted zero e = take-length first ∙ rw e
+  told-bytes Accepted (suc j) e =
+      ap (λ (b : List ℕ). take (length (getD (segmentsOf more) j [])) (drop (startIn (segmentsOf more) j) b)) (sym (packing (suc j) e))
+      ∙ lies-there (segmentsOf more) j (omega (arith, list-accepted more (suc j) e .among)) ∙ rw e
+
+  told-within : (v : Verdict) (k : ℕ) → segmentVerdict more k ≡ v → inBuffer (lying v first more k)
+  unfolding lying inBuffer
+  told-within (Refused x) k e = omega arith
+  told-within Accepted zero e = omega arith
+  told-within Accepted (suc j) e = rw (packing (suc j) e) at (lies-within (segmentsOf more) j (omega (arith, list-accepted more (suc j) e .among)))
+
+  pub lies-bytes : (k : ℕ) → bytesAt first more (liesAt first more k) ≡ segmentOf first more k
+  unfolding liesAt
+  lies-bytes k = told-bytes (segmentVerdict more k) k refl
+
+  -- of a place in the list
+  pub listed-within : (k a n : ℕ) → liesBy (Listed a n) ≡ liesAt first more k → a + n ≤ length more
+  unfolding liesAt inBuffer
+  listed-within k a n e = subst inBuffer (sym e) (told-within (segmentVerdict more k) k refl)
+
+  pub hand-listed : (k a n : ℕ) → liesBy (Listed a n) ≡ liesAt first more k → take (a + n - a) (drop a more) ≡ segmentOf first more k
+  hand-listed k a n e = ap (λ (m : ℕ). take m (drop a more)) (add-sub-cancel-left a n) ∙ ap (bytesAt first more) e ∙ lies-bytes k
+
+  pub hand-nothing : (k : ℕ) (x : Refusal) → liesBy (Nothing x) ≡ liesAt first more k → [] ≡ segmentOf first more k
+  hand-nothing k x e = ap (bytesAt first more) e ∙ lies-bytes k
+
 -- what was answered says whether the list and k were accepted
 module _ (first more : List ℕ) where
   accepted-by : (k : ℕ) (v : Verdict) → segmentVerdict more k ≡ v → lying v first more k .number ≡ 0 → segmentVerdict more k ≡ Accepted
@@ -99,70 +137,13 @@ module _ (first more : List ℕ) where
   unfolding liesAt
   lies-accepted k n = accepted-by k (segmentVerdict more k) refl n
 
-  refused-by : (k : ℕ) (v : Verdict) → segmentVerdict more k ≡ v → 0 < lying v first more k .number → segmentOf first more k ≡ []
-  unfolding lying segmentOf
-  refused-by zero Accepted e n = absurd (omega arith)
-  refused-by (suc j) Accepted e n = absurd (omega arith)
-  refused-by k (Refused x) e n = rw e
-
-  by-number : (k : ℕ) {x : Lies} → x ≡ liesAt first more k → x .number ≡ 0 → segmentVerdict more k ≡ Accepted
-  by-number k e z = lies-accepted k (sym (ap (λ (y : Lies). y .number) e) ∙ z)
-
-  -- the first buffer, for k = 0
+  -- the first buffer, whole, for k = 0
   pub hand-first : (k n : ℕ) → liesBy (First n) ≡ liesAt first more k → first ≡ segmentOf first more k
   unfolding segmentOf liesAt lying
-  hand-first zero n e = rw (by-number zero e refl)
+  hand-first zero n e = rw (lies-accepted zero (sym (ap (λ (y : Lies). y .number) e)))
   hand-first (suc j) n e =
-      let b : _≡_ {A = ℕ} 0 1 = rw (by-number (suc j) e refl) at (ap (λ (y : Lies). y .buffer) e) in
+      let b : _≡_ {A = ℕ} 0 1 = rw (lies-accepted (suc j) (sym (ap (λ (y : Lies). y .number) e))) at (ap (λ (y : Lies). y .buffer) e) in
       absurd (omega arith)
-
-  -- nothing
-  pub hand-nothing : (k : ℕ) (x : Refusal) → liesBy (Nothing x) ≡ liesAt first more k → [] ≡ segmentOf first more k
-  unfolding liesAt
-  hand-nothing k x e =
-      let z : numberOf x ≡ liesAt first more k .number = ap (λ (y : Lies). y .number) e in
-      sym (refused-by k (segmentVerdict more k) refl (omega (arith, number-positive x)))
-
-  -- the j-th of the list, for k = j + 1
-  record Lists (k a n : ℕ) : Type 0 where
-    j : ℕ
-    next : k ≡ suc j
-    start : a ≡ startIn (segmentsOf more) j
-    long : n ≡ length (getD (segmentsOf more) j [])
-
-  which : (k a n : ℕ) → liesBy (Listed a n) ≡ liesAt first more k → Lists k a n
-  unfolding liesAt lying
-  which zero a n e =
-      let b : _≡_ {A = ℕ} 1 0 = rw (by-number zero e refl) at (ap (λ (y : Lies). y .buffer) e) in
-      absurd (omega arith)
-  which (suc j) a n e =
-      let at : liesBy (Listed a n) ≡ lying Accepted first more (suc j) = rw (by-number (suc j) e refl) at e in
-      record { j = j; next = refl; start = ap (λ (y : Lies). y .start) at; long = ap (λ (y : Lies). y .length) at }
-
-  module _ (bytes : Bytes more) (k : ℕ) (v : segmentVerdict more k ≡ Accepted) where
-    packing : listBytes (segmentsOf more) ≡ more
-    packing = packed-segments more bytes (list-accepted more k v .whole)
-
-    inside : {a n : ℕ} (l : Lists k a n) → l .j < length (segmentsOf more)
-    inside l = omega (arith, list-accepted more k v .among, l .next)
-
-    within : {a n : ℕ} → Lists k a n → a + n ≤ length more
-    within l =
-        let w : startIn (segmentsOf more) (l .j) + length (getD (segmentsOf more) (l .j) []) ≤ length more = rw packing at (lies-within (segmentsOf more) (l .j) (inside l)) in
-        omega (arith, l .start, l .long)
-
-    there : (a : ℕ) {n : ℕ} → Lists k a n → take n (drop a more) ≡ segmentOf first more k
-    unfolding segmentOf
-    there a l =
-        ap (λ (m : ℕ). take m (drop a more)) (l .long) ∙ ap (λ (m : ℕ). take (length (getD (segmentsOf more) (l .j) [])) (drop m more)) (l .start)
-        ∙ ap (λ (b : List ℕ). take (length (getD (segmentsOf more) (l .j) [])) (drop (startIn (segmentsOf more) (l .j)) b)) (sym packing)
-        ∙ lies-there (segmentsOf more) (l .j) (inside l) ∙ rw v (ap (λ (m : ℕ). getD (first ∷ segmentsOf more) m []) (sym (l .next)))
-
-  pub listed-within : Bytes more → (k a n : ℕ) → liesBy (Listed a n) ≡ liesAt first more k → a + n ≤ length more
-  listed-within bytes k a n e = within bytes k (by-number k e refl) (which k a n e)
-
-  pub hand-listed : Bytes more → (k a n : ℕ) → liesBy (Listed a n) ≡ liesAt first more k → take (a + n - a) (drop a more) ≡ segmentOf first more k
-  hand-listed bytes k a n e = ap (λ (m : ℕ). take m (drop a more)) (add-sub-cancel-left a n) ∙ there bytes k (by-number k e refl) a (which k a n e)
 
 -- ---- where in memory
 

@@ -97,6 +97,10 @@ lying Accepted first more (suc j) =
 unfoldable pub liesAt : List ℕ → List ℕ → ℕ → Lies
 liesAt first more k = lying (segmentVerdict more k) first more k
 
+-- the bytes that lie there
+abbrev pub bytesAt : List ℕ → List ℕ → Lies → List ℕ
+bytesAt first more p = take (p .length) (drop (p .start) (cond (eqb (p .buffer) 0) first more))
+
 -- what a part says: document 02's number and values for each of its cases
 abbrev pub liesBy : Part → Lies
 liesBy (First n) = record { number = 0; buffer = 0; start = 0; length = n }

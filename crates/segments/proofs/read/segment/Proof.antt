@@ -51,7 +51,7 @@ returns-2 c =
 returns-3 : tie.Need-returns-3
 returns-3 c =
     let e = sym (ap liesBy (c .before .enum-told2 .given .1)) ∙ c .before .before .before .locate .ensures in
-    (hand-nothing _ _ _ (c .before .enum-told2 .given .0 .0) e, lent-first _ _ _ _ ∙ ap (lentFrom _ _) e)
+    (hand-nothing _ _ (λ i. c .before .before .before .before .shared-slice-known2 .given i .fits) _ (c .before .enum-told2 .given .0 .0) e, lent-first _ _ _ _ ∙ ap (lentFrom _ _) e)
 
 pub segment-spec : {M : Type 1} → statement M
 segment-spec =
