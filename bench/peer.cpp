@@ -1,7 +1,8 @@
 // The engine as a C++ team would write it by hand, to time the proved one against: in place on the bytes, with the same
-// tests for the same refusals. The surface is pws.h's with peer_ in front; document 01 is the law here as there.
+// tests for the same refusals. The surface is pws.h's with peer_ in front; documents 01 and 02 are the law here as there.
 #include "peer/reach.hpp"
 #include "peer/record.hpp"
+#include "peer/segments.hpp"
 #include "peer/steps.hpp"
 #include "peer/table.hpp"
 #include "pws.h"
@@ -129,4 +130,21 @@ extern "C" uint64_t peer_item(const uint8_t *record, size_t record_length, size_
         return 0;
     }
     return be64(record + RECORD_HEADER + ITEM * k);
+}
+
+extern "C" pws_part peer_segment(const uint8_t *, size_t first_length, const uint8_t *more, size_t more_length, size_t k) {
+    return find_segment(first_length, more, more_length, k);
+}
+
+extern "C" pws_done peer_pack(const uint8_t *bytes, size_t bytes_length, const uint64_t *lengths, size_t count, uint8_t *list,
+                              size_t list_length) {
+    if (const uint32_t number = lengths_refusal(lengths, count, bytes_length)) {
+        return {number, 0};
+    }
+    const size_t length = SEGMENT_LENGTH * count + bytes_length;
+    if (list_length < length) {
+        return {8, 0};
+    }
+    put_segments(list, bytes, lengths, count);
+    return {0, length};
 }

@@ -25,7 +25,7 @@ pub struct Batch {
     /// Copies of the table; unused by calls without one.
     tables: Lined,
     saved: Vec<u8>,
-    /// What is written: an answer, a table or a record.
+    /// What is written: an answer, a table, a record or a list.
     out: Vec<u8>,
     call: Call,
 }
@@ -56,6 +56,8 @@ impl Batch {
             Call::Read { record } => (vec![], vec![], record.len()),
             Call::Write { record, .. } => (vec![], record.clone(), record.len()),
             Call::Item { .. } => panic!("no workload is an item alone"),
+            Call::Segment { more, .. } => (vec![], vec![], more.len()),
+            Call::Pack { list, .. } => (vec![], list.clone(), list.len()),
         };
         let calls = (BYTES / bytes).clamp(1, MOST_CALLS);
         let stride = table.len().next_multiple_of(LINE);
@@ -101,6 +103,12 @@ impl Batch {
                 (0..calls).for_each(|_| done(surface.write(request, items, out)))
             }
             Call::Item { .. } => {}
+            Call::Segment { first, more, k } => (0..calls).for_each(|_| {
+                black_box(surface.place(first, more, *k));
+            }),
+            Call::Pack { bytes, lengths, .. } => {
+                (0..calls).for_each(|_| done(surface.pack(bytes, lengths, out)))
+            }
         }
     }
 }

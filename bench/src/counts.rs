@@ -43,10 +43,12 @@ fn function(call: &Call) -> &'static str {
         Call::Read { .. } => "read",
         Call::Write { .. } => "write",
         Call::Item { .. } => "item",
+        Call::Segment { .. } => "segment",
+        Call::Pack { .. } => "pack",
     }
 }
 
-/// A line for each workload at its smallest and largest size; 16 cells lie between them.
+/// A line for each workload at its smallest and largest size; 16 lies between them.
 pub fn print(workloads: &[Workload]) -> io::Result<()> {
     println!(
         "\n{:38} {:>5} {:>12} {:>12} {:>12} {:>8} {:>8}",

@@ -9,6 +9,8 @@ use crate::workloads::Workload;
 
 const SEED: u64 = 1;
 const CALLS: u64 = 30_000;
+/// What lies at a bound alone takes some 13,000.
+const CALLS_ON_SEGMENTS: u64 = 20_000;
 
 /// The calls compared, or the first difference.
 pub fn check(workloads: &[Workload]) -> Result<u64, Difference> {
@@ -19,6 +21,7 @@ fn pair(other: &Surface, workloads: &[Workload]) -> Result<u64, Difference> {
     let compare = Compare::new([(OURS.name, &OURS), (other.name, other)]);
     let mut cases = Cases { compare, random: Random::new(SEED) };
     cases.run(CALLS)?;
+    cases.run_segments(cases.compare.calls + CALLS_ON_SEGMENTS)?;
     for workload in workloads {
         cases.compare.call(workload.call.clone())?;
     }

@@ -5,7 +5,7 @@ use std::slice::{from_raw_parts, from_raw_parts_mut};
 
 use second::Done;
 
-use crate::surface::{c_request, request, CDone, CReading, CRequest};
+use crate::surface::{c_request, request, CDone, CPart, CReading, CRequest};
 
 fn c_done(done: Done) -> CDone {
     CDone { number: done.number, length: done.length }
@@ -59,4 +59,47 @@ pub unsafe extern "C" fn second_write(
 #[no_mangle]
 pub unsafe extern "C" fn second_item(record: *const u8, record_length: usize, k: usize) -> u64 {
     second::item(unsafe { from_raw_parts(record, record_length) }, k)
+}
+
+/// Where a segment lies is told by its address alone.
+#[no_mangle]
+pub unsafe extern "C" fn second_segment(
+    first: *const u8,
+    first_length: usize,
+    more: *const u8,
+    more_length: usize,
+    k: usize,
+) -> CPart {
+    let first = unsafe { from_raw_parts(first, first_length) };
+    let more = unsafe { from_raw_parts(more, more_length) };
+    let part = match second::segment(first, more, k) {
+        Ok(part) => part,
+        Err(refusal) => return CPart { number: refusal.number(), buffer: 0, start: 0, length: 0 },
+    };
+    let (buffer, start) = match (offset(part, first), offset(part, more)) {
+        (Some(start), _) => (0, start),
+        (None, Some(start)) => (1, start),
+        (None, None) => panic!("the segment lies in neither buffer"),
+    };
+    CPart { number: 0, buffer, start, length: part.len() }
+}
+
+/// Where the part begins in the buffer, if it lies there.
+fn offset(part: &[u8], buffer: &[u8]) -> Option<usize> {
+    let offset = part.as_ptr().addr().checked_sub(buffer.as_ptr().addr())?;
+    (offset + part.len() <= buffer.len()).then_some(offset)
+}
+
+#[no_mangle]
+pub unsafe extern "C" fn second_pack(
+    bytes: *const u8,
+    bytes_length: usize,
+    lengths: *const u64,
+    count: usize,
+    list: *mut u8,
+    list_length: usize,
+) -> CDone {
+    let bytes = unsafe { from_raw_parts(bytes, bytes_length) };
+    let list = unsafe { from_raw_parts_mut(list, list_length) };
+    c_done(second::pack(bytes, unsafe { from_raw_parts(lengths, count) }, list))
 }

@@ -3,8 +3,11 @@
 
 use second::{Broadcasts, Done, Reading, Request, Seconds};
 
+use crate::comparison::part::Part;
 use crate::comparison::unit::Unit;
-use crate::second_c::{second_apply, second_build, second_item, second_read, second_write};
+use crate::second_c::{
+    second_apply, second_build, second_item, second_pack, second_read, second_segment, second_write,
+};
 
 #[repr(C)]
 pub struct CDone {
@@ -33,11 +36,21 @@ pub struct CReading {
     pub items: usize,
 }
 
+#[repr(C)]
+pub struct CPart {
+    pub number: u32,
+    pub buffer: u32,
+    pub start: usize,
+    pub length: usize,
+}
+
 pub type Build = unsafe extern "C" fn(*const u8, usize, *mut u8, usize) -> CDone;
 pub type Apply = unsafe extern "C" fn(*mut u8, usize, *const u8, usize, *mut u8, usize) -> CDone;
 pub type Read = unsafe extern "C" fn(*const u8, usize) -> CReading;
 pub type Write = unsafe extern "C" fn(CRequest, *const u64, usize, *mut u8, usize) -> CDone;
 pub type Item = unsafe extern "C" fn(*const u8, usize, usize) -> u64;
+pub type Segment = unsafe extern "C" fn(*const u8, usize, *const u8, usize, usize) -> CPart;
+pub type Pack = unsafe extern "C" fn(*const u8, usize, *const u64, usize, *mut u8, usize) -> CDone;
 
 #[derive(Clone, Copy)]
 pub struct Surface {
@@ -49,11 +62,13 @@ pub struct Surface {
     read: Read,
     write: Write,
     item: Item,
+    segment: Segment,
+    pack: Pack,
 }
 
-/// A C library's five functions, and the surface that they make.
+/// A C library's seven functions, and the surface that they make.
 macro_rules! surface {
-    ($surface:ident, $name:literal, $prefix:literal, $build:ident, $apply:ident, $read:ident, $write:ident, $item:ident) => {
+    ($surface:ident, $name:literal, $prefix:literal, $build:ident, $apply:ident, $read:ident, $write:ident, $item:ident, $segment:ident, $pack:ident) => {
         extern "C" {
             fn $build(heads: *const u8, length: usize, table: *mut u8, room: usize) -> CDone;
             #[rustfmt::skip]
@@ -75,6 +90,23 @@ macro_rules! surface {
                 room: usize,
             ) -> CDone;
             fn $item(record: *const u8, length: usize, k: usize) -> u64;
+            #[rustfmt::skip]
+            fn $segment(
+                first: *const u8,
+                first_length: usize,
+                more: *const u8,
+                more_length: usize,
+                k: usize,
+            ) -> CPart;
+            #[rustfmt::skip]
+            fn $pack(
+                bytes: *const u8,
+                bytes_length: usize,
+                lengths: *const u64,
+                count: usize,
+                list: *mut u8,
+                room: usize,
+            ) -> CDone;
         }
 
         pub const $surface: Surface = Surface {
@@ -85,12 +117,16 @@ macro_rules! surface {
             read: $read,
             write: $write,
             item: $item,
+            segment: $segment,
+            pack: $pack,
         };
     };
 }
 
-surface!(OURS, "ours", "pws", pws_build, pws_apply, pws_read, pws_write, pws_item);
-surface!(PEER, "peer", "peer", peer_build, peer_apply, peer_read, peer_write, peer_item);
+#[rustfmt::skip]
+surface!(OURS, "ours", "pws", pws_build, pws_apply, pws_read, pws_write, pws_item, pws_segment, pws_pack);
+#[rustfmt::skip]
+surface!(PEER, "peer", "peer", peer_build, peer_apply, peer_read, peer_write, peer_item, peer_segment, peer_pack);
 
 pub const SECOND: Surface = Surface {
     name: "second",
@@ -100,6 +136,8 @@ pub const SECOND: Surface = Surface {
     read: second_read,
     write: second_write,
     item: second_item,
+    segment: second_segment,
+    pack: second_pack,
 };
 
 extern "C" {
@@ -136,6 +174,14 @@ fn done(done: CDone) -> Done {
 
 // SAFETY of every call: a slice's pointer is never null and good for the slice's length, and
 // slices of which one is exclusive don't overlap.
+impl Surface {
+    /// Where segment k lies, without a copy of its bytes: this is what is timed.
+    #[inline]
+    pub fn place(&self, first: &[u8], more: &[u8], k: usize) -> CPart {
+        unsafe { (self.segment)(first.as_ptr(), first.len(), more.as_ptr(), more.len(), k) }
+    }
+}
+
 impl Unit for Surface {
     #[inline]
     fn build(&self, heads: &[u8], table: &mut [u8]) -> Done {
@@ -166,5 +212,19 @@ impl Unit for Surface {
     #[inline]
     fn item(&self, record: &[u8], k: usize) -> u64 {
         unsafe { (self.item)(record.as_ptr(), record.len(), k) }
+    }
+
+    fn segment(&self, first: &[u8], more: &[u8], k: usize) -> Part {
+        let CPart { number, buffer, start, length } = self.place(first, more, k);
+        Part { number, buffer, start, length, bytes: Vec::new() }.seen_in(first, more)
+    }
+
+    #[inline]
+    fn pack(&self, bytes: &[u8], lengths: &[u64], list: &mut [u8]) -> Done {
+        let (list, room) = (list.as_mut_ptr(), list.len());
+        let (bytes, bytes_length) = (bytes.as_ptr(), bytes.len());
+        done(unsafe {
+            (self.pack)(bytes, bytes_length, lengths.as_ptr(), lengths.len(), list, room)
+        })
     }
 }

@@ -4,16 +4,20 @@ use second::request::*;
 use second::{Answer, Broadcasts, Cell, Record, Request, Seconds, Table};
 
 use crate::comparison::call::Call;
+use crate::comparison::lists::{packed, Packing, MOST};
 use crate::tables::{heads, identity, table, Due, IDENTIFIER, SERIAL};
 
 pub const MOST_CELLS: usize = 512;
 const SIZES: [usize; 3] = [1, 16, MOST_CELLS];
 const RECORD_SIZES: [usize; 3] = [0, 1, 512];
+const LIST_SIZES: [usize; 3] = [1, 16, MOST];
+/// Bytes of each segment, the first one too.
+const SEGMENT: usize = 82;
 const OTHER_SERIAL: u16 = 99;
 
 pub struct Workload {
     pub name: &'static str,
-    /// Cells of the table; of a record that is read or written, its items.
+    /// Cells of the table; of a record that is read or written, its items; of a list, its segments.
     pub size: usize,
     pub call: Call,
 }
@@ -132,6 +136,14 @@ fn records(items: usize) -> Vec<(&'static str, Call)> {
     vec![("read a record", read), ("write a record", write)]
 }
 
+fn lists(count: usize) -> Vec<(&'static str, Call)> {
+    let segments: Vec<Vec<u8>> = (1..=count).map(|k| vec![k as u8; SEGMENT]).collect();
+    let find = Call::Segment { first: vec![0; SEGMENT], more: packed(&segments), k: count };
+    let Packing { bytes, lengths, room, .. } = Packing::of(&segments);
+    let pack = Call::Pack { bytes, lengths, list: vec![0xee; room] };
+    vec![("find the last segment", find), ("pack a list", pack)]
+}
+
 type Family = fn(usize) -> Vec<(&'static str, Call)>;
 
 fn family(of: Family, sizes: &[usize]) -> Vec<Workload> {
@@ -147,7 +159,8 @@ fn family(of: Family, sizes: &[usize]) -> Vec<Workload> {
 pub fn all() -> Vec<Workload> {
     let cells: [Family; 6] = [seconds, cancels, starts, resets, refusals, build];
     let of_cells = cells.into_iter().flat_map(|of| family(of, &SIZES));
-    of_cells.chain(family(records, &RECORD_SIZES)).collect()
+    let of_records = family(records, &RECORD_SIZES);
+    of_cells.chain(of_records).chain(family(lists, &LIST_SIZES)).collect()
 }
 
 /// A second over so many full cells, none due.
