@@ -1,6 +1,9 @@
 // Big-endian numbers and runs of bytes in lent slices. A number is one load or store and a turn of its bytes; one of 24 bits is two.
+mod moved;
 mod turned;
 
+use moved::copy_bytes;
+use moved::copy16;
 use turned::load16;
 use turned::load32;
 use turned::load64;
@@ -127,14 +130,21 @@ pub fn put64(s: &mut [u8], at: usize, x: u64)
     store64(s, at, turn64(x));
 }
 
-// All of `from`, stored from an index on; every other byte stays.
+// All of `from`, stored from an index on; every other byte stays. Sixteen bytes a turn, and the last sixteen as they lie, over some of
+// those before them, so that no rest goes byte by byte.
 pub fn copy(to: &mut [u8], at: usize, from: &[u8])
     requires { ⌜ at + length (now from) ≤ length (now to) ⌝ }
     ensures { λ _. ⌜ now (to .exit) ≡ sets (now (to .entry)) at (now (from .entry)) ⌝ }
 {
-    let mut i = 0;
-    while i < from.len() {
-        to[at + i] = from[i];
-        i += 1;
+    if from.len() < 16 {
+        copy_bytes(to, at, from);
+        return;
     }
+    let last = from.len() - 16;
+    let mut i = 0;
+    while i < last {
+        copy16(to, at + i, from, i);
+        i += 16;
+    }
+    copy16(to, at + last, from, last);
 }

@@ -1,39 +1,38 @@
 -- `copy` stores all of `from` at the index, and nothing else.
--- The invariant, `Copied`, has the first i elements stored; a turn stores one more, which is `sets-more`.
-use Prim.Native.Nat.{ℕ, _≤_, _-_}
-use mathlib.Core.Path.{_≡_, refl, _∙_}
-use mathlib.Core.List.{List}
+-- The invariant, `Copying`, has the first i bytes stored; a turn stores sixteen more, and the last sixteen end it.
+use Prim.Native.Nat.{_-_}
 use native.Mathlib.Omega.{arith}
-use lib.ListN.{length, take, length-set}
-use lib.Seq.{sets, take-all}
 use borrow.Author.Needs.{needs}
-use Rattle.octets.proofs.RunsLaws.{sets-more}
+use Rattle.octets.proofs.CopyLaws.{Copying, copying-starts, copying-goes, copying-ends}
 use Rattle.octets.proofs.copy.Statement.{statement}
 use Rattle.octets.proofs.copy.Tie as tie
 
--- the first i elements of `from` are stored, and all else is as it was
-record Copied (to₀ : List ℕ) (at : ℕ) (from to : List ℕ) (i : ℕ) : Type 0 where
-  within : i ≤ length from
-  long : length to ≡ length to₀
-  stored : to ≡ sets to₀ at (take i from)
-
 abbrev Inv-loop : tie.InvT-loop
-Inv-loop to₀ at from i₀ to i = Copied to₀ at from to i
+Inv-loop to₀ at from last i₀ to i = Copying to₀ at from to i
 
 abbrev μ-loop : tie.MeasureT-loop
-μ-loop to₀ at from i₀ to i = length from - i
+μ-loop to₀ at from last i₀ to i = last - i
+
+copy-bytes-requires : tie.Need-copy-bytes-requires Inv-loop μ-loop
+copy-bytes-requires c κs = search needs
+
+same-length : tie.Need-same-length Inv-loop μ-loop
+same-length c = search needs
+
+returns : tie.Need-returns Inv-loop μ-loop
+returns c = c .before .before .copy-bytes .ensures
+
+sub-last : tie.Need-sub-last Inv-loop μ-loop
+sub-last c = search needs
 
 loop-holds : tie.Need-loop-holds Inv-loop μ-loop
-loop-holds c = record { within = omega arith; long = refl; stored = refl }
+loop-holds c = copying-starts (c .before .before .before .args .to .now) (c .before .before .before .args .at) (c .before .before .before .args .from .now)
 
-shared-slice-read-to : tie.Need-shared-slice-read-to Inv-loop μ-loop
-shared-slice-read-to c = search needs
+add-copy16 : tie.Need-add-copy16 Inv-loop μ-loop
+add-copy16 c = search needs
 
-add-to : tie.Need-add-to Inv-loop μ-loop
-add-to c = search needs
-
-slice-write-to : tie.Need-slice-write-to Inv-loop μ-loop
-slice-write-to c = search needs
+copy16-requires : tie.Need-copy16-requires Inv-loop μ-loop
+copy16-requires c κs = search needs
 
 add-i : tie.Need-add-i Inv-loop μ-loop
 add-i c = search needs
@@ -42,22 +41,19 @@ loop-less : tie.Need-loop-less Inv-loop μ-loop
 loop-less c = search needs
 
 loop-again : tie.Need-loop-again Inv-loop μ-loop
-loop-again c =
-    let a = c .before .before .before .args in
-    let l = c .before .before .loop in
-    record {
-      within = omega arith;
-      long = simp length-set (omega arith);
-      stored = rw (l .inv .stored) (sets-more (a .to .now) (a .from .now) (a .at) (l .i) (omega arith));
-    }
+loop-again c = copying-goes (c .before .before .before .before .before .loop .inv) (omega arith) _ (c .before .before .copy16 .ensures)
 
-same-length : tie.Need-same-length Inv-loop μ-loop
-same-length c = search needs
+add-copy16-2 : tie.Need-add-copy16-2 Inv-loop μ-loop
+add-copy16-2 c = search needs
 
-returns : tie.Need-returns Inv-loop μ-loop
-returns c =
-    let l = c .before .loop in
-    l .inv .stored ∙ rw (take-all (l .i) (c .before .before .args .from .now) (omega arith))
+copy16-requires-2 : tie.Need-copy16-requires-2 Inv-loop μ-loop
+copy16-requires-2 c κs = search needs
+
+same-length-2 : tie.Need-same-length-2 Inv-loop μ-loop
+same-length-2 c = search needs
+
+returns-2 : tie.Need-returns-2 Inv-loop μ-loop
+returns-2 c = copying-ends (c .before .before .before .before .before .loop .inv) _ (omega arith) (c .before .before .before .before .loop-test .left) (c .before .before .before .before .before .before .before .before .before .pre) _ (c .before .before .copy162 .ensures)
 
 pub copy-spec : {M : Type 1} → statement M
 copy-spec =
@@ -65,12 +61,17 @@ copy-spec =
     (tie.spec
     Inv-loop
     μ-loop
+    copy-bytes-requires
+    same-length
+    returns
+    sub-last
     loop-holds
-    shared-slice-read-to
-    add-to
-    slice-write-to
+    add-copy16
+    copy16-requires
     add-i
     loop-less
     loop-again
-    same-length
-    returns)
+    add-copy16-2
+    copy16-requires-2
+    same-length-2
+    returns-2)
