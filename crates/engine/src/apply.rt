@@ -13,10 +13,8 @@ ghost use Rattle.rules.specs.declared.Verdict.the-variants.{Accepted};
 use crate::head::put_head;
 use crate::walk::walk;
 use octets::get16;
-use places::new_bytes;
 use record::read::count;
 use record::read::request;
-use routines::start::starts_nothing;
 use rules::Answer;
 use rules::Refusal;
 use rules::Request;
@@ -27,6 +25,8 @@ use rules::layout::ANSWER;
 use rules::layout::CELLS_AT;
 use rules::layout::PLACES;
 use rules::layout::ROW;
+use starts::new_bytes;
+use starts::starts_nothing;
 
 fn cells_of(table: &[u8]) -> usize
     requires { ⌜ headerSize ≤ length (now table) ⌝ }
@@ -83,7 +83,7 @@ fn grant(table: &mut [u8], req: &[u8], answer: &mut [u8]) -> usize
         put_head(answer, fields, 0);
         return 0;
     }
-    let new = new_bytes(req);
+    let new = new_bytes(fields);
     let rows = walk(
         table,
         cells_of(table),

@@ -1,3 +1,2 @@
 pub mod ChangesLaws
-pub mod NewLaws
 pub mod Once

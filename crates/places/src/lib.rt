@@ -2,20 +2,22 @@
 use cell::read::Counts;
 use octets::get32;
 use octets::get64;
+use octets::put8;
 use octets::put16;
 use octets::put32;
 use octets::put64;
+use rules::Place;
 use rules::Seconds;
+use rules::layout::CONTENT_AT;
 use rules::layout::HEAD;
-use rules::layout::IDENTIFIER_AT;
+use rules::layout::LIVE_AT;
+use rules::layout::PERIOD_AT;
 use rules::layout::PLACE;
+use rules::layout::PLACE_SERIAL_AT;
 use rules::layout::PLACES;
-use rules::layout::RECORD_CONTENT_AT;
-use rules::layout::RECORD_PERIOD_AT;
-use rules::layout::RECORD_REQUESTED_AT;
-use rules::layout::RECORD_SIB_AT;
+use rules::layout::REQUESTED_AT;
 use rules::layout::SENT_AT;
-use rules::layout::SERIAL_AT;
+use rules::layout::SIB_AT;
 use rules::layout::WAIT_AT;
 ghost use mathlib.Core.Path.{_≡_};
 ghost use mathlib.Core.List.{[], _∷_, _++_};
@@ -23,10 +25,9 @@ ghost use Prim.Native.Nat.{_+_, _*_, _≤_, _<_};
 ghost use lib.ListN.{length, set};
 ghost use lib.Seq.{sets};
 ghost use Rattle.octets.specs.Runs.{gets};
-ghost use Rattle.rules.specs.Layout.{headSize, placeSize, placesPerCell, cellSize, longestPeriod, recordSize};
+ghost use Rattle.rules.specs.Layout.{headSize, placeSize, placesPerCell, cellSize, longestPeriod};
 ghost use Rattle.rules.specs.Table.{placeOf, placeBytes, freeBytes};
-ghost use Rattle.rules.specs.Record.{requestOf};
-ghost use Rattle.rules.specs.InCell.{newPlace, withCounts};
+ghost use Rattle.rules.specs.InCell.{withCounts};
 ghost use Rattle.cell.specs.Places.{livePlaces, withPlaces, placeAt, LiveAt, FreeAt, OnePlace, without};
 ghost use Rattle.places.specs.Words.{wordBytes};
 
@@ -134,32 +135,19 @@ pub fn add_place(cell: &mut [u8], k: usize, new: &[u8])
     store(cell, HEAD + PLACE * k, words);
 }
 
-// The bytes of the place that a Write-Replace makes, as they stand in its record: sent and wait are 0, and it is live.
-pub fn new_bytes(req: &[u8]) -> [u8; PLACE]
-    requires { ⌜ recordSize ≤ length (now req) ⌝ }
-    requires { ⌜ requestOf (now req) .period .0 ≤ longestPeriod ⌝ }
-    ensures { λ r. ⌜ r ≡ placeBytes (newPlace (requestOf (now (req .entry)))) ⌝ }
+pub fn place_bytes(place: Place) -> [u8; PLACE]
+    requires { ⌜ (place .period .0 ≤ longestPeriod) × (place .wait .0 ≤ longestPeriod) ⌝ }
+    ensures { λ r. ⌜ r ≡ placeBytes place ⌝ }
 {
-    [
-        req[IDENTIFIER_AT],
-        req[IDENTIFIER_AT + 1],
-        req[SERIAL_AT],
-        req[SERIAL_AT + 1],
-        req[RECORD_CONTENT_AT],
-        req[RECORD_CONTENT_AT + 1],
-        req[RECORD_CONTENT_AT + 2],
-        req[RECORD_CONTENT_AT + 3],
-        req[RECORD_PERIOD_AT + 2],
-        req[RECORD_PERIOD_AT + 3],
-        req[RECORD_REQUESTED_AT],
-        req[RECORD_REQUESTED_AT + 1],
-        0,
-        0,
-        0,
-        0,
-        req[RECORD_SIB_AT],
-        LIVE,
-        0,
-        0,
-    ]
+    let mut bytes = [0; PLACE];
+    put16(&mut bytes, 0, place.identifier);
+    put16(&mut bytes, PLACE_SERIAL_AT, place.serial);
+    put32(&mut bytes, CONTENT_AT, place.content);
+    put16(&mut bytes, PERIOD_AT, place.period.0 as u16);
+    put16(&mut bytes, REQUESTED_AT, place.requested.0);
+    put16(&mut bytes, SENT_AT, place.sent.0);
+    put16(&mut bytes, WAIT_AT, place.wait.0 as u16);
+    put8(&mut bytes, SIB_AT, place.sib);
+    put8(&mut bytes, LIVE_AT, LIVE);
+    bytes
 }

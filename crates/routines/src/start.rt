@@ -7,17 +7,9 @@ use rules::Broadcasts;
 use rules::Request;
 use rules::layout::PLACES;
 ghost use mathlib.Core.Path.{_≡_};
-ghost use Rattle.rules.specs.InCell.{start, startsNothing};
+ghost use Rattle.rules.specs.InCell.{start};
 ghost use Rattle.cell.specs.Places.{livePlaces};
 ghost use Rattle.routines.specs.Step.{Ready, Stepped, StartIn};
-
-// The zero rules.
-pub fn starts_nothing(request: Request) -> bool
-    ensures { λ r. ⌜ r ≡ startsNothing request ⌝ }
-{
-    ((request.requested.0 == 0) & (request.flags % 2 != 1))
-        | ((request.period.0 == 0) & (request.requested.0 != 1))
-}
 
 // One search finds the text, or else the first free place. `new` has the bytes of the new place, made once for a request.
 pub fn start_in_cell(cell: &mut [u8], request: Request, new: &[u8], out: &mut [u8]) -> usize

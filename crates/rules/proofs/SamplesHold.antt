@@ -1,4 +1,4 @@
--- Document 01's samples hold: P1 to P13 as one table of rows, and the program's example.
+-- The samples hold: P1 to P13 as one table of rows, those of earthquake primaries, and the program's example.
 -- Each is computed: both sides are the same bytes.
 use mathlib.Core.Path.{refl}
 use mathlib.Core.List.{flatMap}
@@ -22,6 +22,8 @@ samples-hold =
     record {
       marked = (refl, (refl, (refl, (refl, (refl, (refl, (refl, (refl, (refl, (refl, (refl, (refl, (refl, (refl, tt))))))))))))));
       further = (refl, (refl, (refl, (refl, (refl, (refl, (refl, (refl, (refl, (refl, (refl, (refl, tt))))))))))));
+      primaries = (refl, (refl, (refl, (refl, (refl, (refl, (refl, (refl, (refl, (refl, (refl, tt)))))))))));
+      primary-runs = refl;
       builds = refl;
       runs = refl;
     }

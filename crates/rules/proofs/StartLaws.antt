@@ -1,7 +1,7 @@
 -- A Write-Replace leaves the places of a cell sound and gives one row at most; what starts nothing, or runs already, changes nothing.
 -- The new place's fields fit because the request's do and the limits hold; then by the tests of `start`, in order.
 use mathlib.Core.Path.{_≡_, refl, ap}
-use mathlib.Core.Bool.{true, false, not, _&&_}
+use mathlib.Core.Bool.{Bool, true, false, cond, not, _&&_}
 use mathlib.Core.List.{List, []}
 use Prim.Native.Nat.{ℕ, _^_, _≤_, _<_}
 use native.Mathlib.Omega.{arith}
@@ -11,11 +11,13 @@ use borrow.Author.Tests.{ltb-true, leb-true, eqb-true, not-false, eq-eqb}
 use Rattle.rules.specs.Lists.{every}
 use Rattle.rules.specs.Layout.{recordFields, placesPerCell, longestPeriod, firstSib, lastSib}
 use Rattle.rules.specs.Table.{running}
-use Rattle.rules.specs.Record.{writeReplace, requestNumbers, concurrent, itemEnd, withinLimits}
+use Rattle.rules.specs.Record.{writeReplace, requestNumbers, concurrent, isPrimary, itemEnd, withinLimits}
 use Rattle.rules.specs.Sound.{soundPlace, soundPlaces, fitRequest}
-use Rattle.rules.specs.InCell.{Told, Done, done, reported, startsNothing, newPlace, start}
+use Rattle.rules.specs.InCell.{Told, Done, done, reported, zeroRulesStop, startsNothing, newPlace, start}
 use Rattle.rules.specs.declared.Request.{Request}
 use Rattle.rules.specs.declared.Place.{Place}
+use Rattle.rules.specs.declared.Seconds.{Seconds}
+use Rattle.rules.specs.declared.Broadcasts.{Broadcasts}
 use Rattle.rules.proofs.ListsLaws.{both, cond-either, or-else, neither, larger-right}
 use Rattle.rules.proofs.SoundPlaceLaws.{fits-at, facts-sound, one-sound, snoc-sound}
 
@@ -37,16 +39,21 @@ write-limits q items e k =
       sib = (leb-true firstSib (q .sib) (c .1), leb-true (q .sib) lastSib (b .1));
     }
 
--- period 0 starts only with requested 1
-pub starts-once : (q : Request) → startsNothing q ≡ false → q .period .0 ≡ 0 → q .requested .0 ≡ 1
-unfolding startsNothing
-starts-once q n z =
+pub new-short : (q : Request) → q .period .0 ≤ longestPeriod → newPlace q .period .0 ≤ longestPeriod
+unfolding newPlace
+new-short q l = cond-either (λ (s : Seconds). s .0 ≤ longestPeriod) (isPrimary q) _ _ (λ e. omega arith) (λ e. l)
+
+-- period 0 comes only with requested 1: a primary has period 1, and of others the zero rules say so
+once-or-primary : (b : Bool) (q : Request) → not b && zeroRulesStop q ≡ false → cond b (record { 0 = 1 }) (q .period) .0 ≡ 0
+    → cond b (record { 0 = 0 }) (q .requested) .0 ≡ 1
+once-or-primary true q n z = omega (arith, z)
+once-or-primary false q n z =
     let h = neither (eqb (q .requested .0) 0 && not (concurrent q)) _ n .1 in
     eqb-true (q .requested .0) 1 (not-false _ (rw (eq-eqb (q .period .0) 0 z) at h))
 
 pub new-sound : (q : Request) (items : List ℕ) → fitRequest q ≡ true → withinLimits q items ≡ true → q .kind ≡ writeReplace → startsNothing q ≡ false
     → soundPlace (newPlace q) ≡ true
-unfolding fitRequest requestNumbers newPlace
+unfolding fitRequest requestNumbers startsNothing newPlace
 new-sound q items f w k n =
     let l = write-limits q items w k in
     let at : (i : ℕ) → getD (requestNumbers q 0) i 0 < 256 ^ getD recordFields i 0 = λ i. fits-at recordFields (requestNumbers q 0) i f in
@@ -55,13 +62,13 @@ new-sound q items f w k n =
       identifier = at 5;
       serial = at 6;
       content = at 7;
-      requested = at 9;
+      requested = cond-either (λ (n : Broadcasts). n .0 < 256 ^ 2) (isPrimary q) _ _ (λ e. omega arith) (λ e. at 9);
       sent = omega arith;
       legal =
           record {
-            period = l .period;
-            once = starts-once q n;
-            wait = larger-right (q .period .0) 1;
+            period = new-short q (l .period);
+            once = once-or-primary (isPrimary q) q n;
+            wait = larger-right (newPlace q .period .0) 1;
             sent = λ m. omega arith;
             sib = l .sib;
           };

@@ -1,4 +1,5 @@
 -- Document 01, "What happens in each reached cell": for each kind, the live places afterwards and what is reported. No bytes.
+-- Of earthquake primaries as document 02, 2/13, has it.
 use mathlib.Core.Bool.{Bool, cond, not, _&&_, _||_}
 use mathlib.Core.List.{List, [], _∷_, _++_, flatMap}
 use Prim.Native.Nat.{ℕ, _+_, _-_}
@@ -7,7 +8,7 @@ use lib.ListN.{length}
 use Rattle.rules.specs.Lists.{those}
 use Rattle.rules.specs.Layout.{placesPerCell, mostSent}
 use Rattle.rules.specs.Table.{isText, running}
-use Rattle.rules.specs.Record.{writeReplace, cancelOrKill, restartKind, failureKind, concurrent, cancelAll}
+use Rattle.rules.specs.Record.{writeReplace, cancelOrKill, restartKind, failureKind, concurrent, cancelAll, isPrimary}
 use Rattle.rules.specs.declared.Place.{Place}
 use Rattle.rules.specs.declared.Request.{Request}
 
@@ -35,19 +36,24 @@ reportedIfLive (p ∷ ps) = reported 0
 -- ---- Write-Replace
 
 -- the zero rules: requested is 0 without flag 1, or period is 0 and requested is not 1
-unfoldable pub startsNothing : Request → Bool
-startsNothing q =
+abbrev pub zeroRulesStop : Request → Bool
+zeroRulesStop q =
     eqb (q .requested .0) 0 && not (concurrent q)
     || eqb (q .period .0) 0 && not (eqb (q .requested .0) 1)
 
+-- a primary skips them
+unfoldable pub startsNothing : Request → Bool
+startsNothing q = not (isPrimary q) && zeroRulesStop q
+
+-- a primary goes out every second until it is stopped, whatever period and count it came with
 unfoldable pub newPlace : Request → Place
 newPlace q =
     record {
       identifier = q .identifier;
       serial = q .serial;
       content = q .content;
-      period = q .period;
-      requested = q .requested;
+      period = cond (isPrimary q) (record { 0 = 1 }) (q .period);
+      requested = cond (isPrimary q) (record { 0 = 0 }) (q .requested);
       sent = record { 0 = 0 };
       wait = record { 0 = 0 };
       sib = q .sib;

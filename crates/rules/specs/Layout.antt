@@ -64,6 +64,10 @@ firstSib = 6
 abbrev pub lastSib : ℕ
 lastSib = 8
 
+-- an earthquake primary's
+abbrev pub primarySib : ℕ
+primarySib = 6
+
 -- ---- the request record
 
 -- "PWR"; version; kind; flags; area; message identifier; serial number; content; period; requested; SIB kind; zero; item count

@@ -8,7 +8,7 @@ use Rattle.octets.specs.Runs.{pieces}
 use Rattle.octets.specs.Numbers.{be, toBe}
 use Rattle.octets.specs.Fields.{bytesOf}
 use Rattle.rules.specs.Lists.{every, zeros, oneOf}
-use Rattle.rules.specs.Layout.{field, recordFields, recordSize, itemSize, recordMark, recordVersion, longestPeriod, firstSib, lastSib, cellEnd, trackingEnd, emergencyEnd}
+use Rattle.rules.specs.Layout.{field, recordFields, recordSize, itemSize, recordMark, recordVersion, longestPeriod, firstSib, lastSib, primarySib, cellEnd, trackingEnd, emergencyEnd}
 use Rattle.rules.specs.declared.Request.{Request}
 
 -- ---- kinds, areas, flags
@@ -51,6 +51,10 @@ cancelAll q = eqb (q .flags / 2 % 2) 1
 -- flag 4
 abbrev pub notified : Request → Bool
 notified q = eqb (q .flags / 4 % 2) 1
+
+-- an earthquake primary
+abbrev pub isPrimary : Request → Bool
+isPrimary q = eqb (q .sib) primarySib
 
 -- ---- a record's bytes
 

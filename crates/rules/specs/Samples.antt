@@ -1,4 +1,5 @@
 -- Document 01, "Sample situations": the rows marked P and the program's example, as bytes written out by hand, and what is claimed of each.
+-- Then those of document 02's changes to the rules.
 use mathlib.Core.Path.{_≡_}
 use mathlib.Core.List.{List, [], _∷_, _++_}
 use Prim.Native.Nat.{ℕ, _/_, _%_, _*_, _-_}
@@ -25,13 +26,16 @@ identity x = 0 ∷ 15 ∷ 17 ∷ 0 ∷ 0 ∷ 0 ∷ 0 ∷ x ∷ []
 abbrev pub head : ℕ → ℕ → List ℕ
 head x code = identity x ++ (0 ∷ 0 ∷ code ∷ 0 ∷ replicate 12 0)
 
--- a live place of SIB kind 8, serial number 16
-abbrev pub text : ℕ → ℕ → ℕ → ℕ → ℕ → ℕ → List ℕ
-text identifier content period requested sent wait =
+-- a live place of serial number 16, with its SIB kind
+abbrev pub textOf : ℕ → ℕ → ℕ → ℕ → ℕ → ℕ → ℕ → List ℕ
+textOf sib identifier content period requested sent wait =
     word identifier
     ++ (0 ∷ 16 ∷ long content)
     ++ (word period ++ word requested ++ word sent ++ word wait)
-    ++ (8 ∷ 1 ∷ 0 ∷ 0 ∷ [])
+    ++ (sib ∷ 1 ∷ 0 ∷ 0 ∷ [])
+
+abbrev pub text : ℕ → ℕ → ℕ → ℕ → ℕ → ℕ → List ℕ
+text = textOf 8
 
 abbrev pub free : ℕ → List ℕ
 free n = replicate (20 * n) 0
@@ -52,9 +56,12 @@ request kind flags area identifier serial content period requested sib n items =
     ++ (sib ∷ 0 ∷ word n)
     ++ items
 
--- Write-Replace of serial number 16, SIB kind 8, no area
+-- Write-Replace of serial number 16, with its SIB kind, no area
+abbrev pub startsOf : ℕ → ℕ → ℕ → ℕ → ℕ → ℕ → List ℕ
+startsOf sib flags identifier content period requested = request 1 flags 0 identifier 16 content period requested sib 0 []
+
 abbrev pub starts : ℕ → ℕ → ℕ → ℕ → ℕ → List ℕ
-starts flags identifier content period requested = request 1 flags 0 identifier 16 content period requested 8 0 []
+starts = startsOf 8
 
 -- Cancel, with an area's number, item count and items
 abbrev pub cancels : ℕ → ℕ → ℕ → ℕ → ℕ → List ℕ → List ℕ
@@ -200,6 +207,53 @@ furtherSamples =
     ∷ sample (one (free 4)) (request 4 0 0 0 0 0 0 0 0 0 []) [] (leaves (one (free 4)) (answers 4 0 0 0))
     ∷ []
 
+-- ---- document 02, 2/13: an earthquake primary goes out every second until it is stopped
+
+-- a counted primary that stands in a table, sent once
+abbrev pub counted : ℕ → List ℕ
+counted wait = one (textOf 6 4370 7 5 2 1 wait ++ free 3)
+
+-- 4370/16 as a primary's start leaves it
+abbrev pub primary : ℕ → List ℕ
+primary sent = one (textOf 6 4370 7 1 0 sent 0 ++ free 3)
+
+abbrev pub primarySamples : List Sample
+primarySamples =
+    -- requested 0, flag 1 absent: starts
+    sample (one (free 4)) (startsOf 6 0 4370 7 5 0) [] (leaves (primary 0) (answers 1 4370 16 1 ++ says 16 0 0))
+    -- period 0, requested 2: starts
+    ∷ sample (one (free 4)) (startsOf 6 0 4370 7 0 2) [] (leaves (primary 0) (answers 1 4370 16 1 ++ says 16 0 0))
+    -- both 0: starts
+    ∷ sample (one (free 4)) (startsOf 6 0 4370 7 0 0) [] (leaves (primary 0) (answers 1 4370 16 1 ++ says 16 0 0))
+    -- flag 1 absent: the others are dropped
+    ∷ sample (one four) (startsOf 6 0 4370 7 5 2) [] (leaves (primary 0) (answers 1 4370 16 1 ++ says 16 0 0))
+    -- flag 1 and no place free: no rows
+    ∷ sample (one four) (startsOf 6 1 4370 7 5 2) [] (leaves (one four) (answers 1 4370 16 0))
+    -- a counted one in a table waits as stored, and ends as stored ..
+    ∷ sample (counted 3) passes [] (leaves (counted 2) (answers 5 0 0 0))
+    ∷ sample (counted 0) passes [] (leaves (one (free 4)) (answers 5 0 0 1 ++ says 16 2 7))
+    -- .. and its repeat changes nothing
+    ∷ sample (counted 3) (startsOf 6 0 4370 8 1 0) [] (leaves (counted 3) (answers 1 4370 16 1 ++ says 16 0 0))
+    -- a period above the limit: 6
+    ∷ sample (one (free 4)) (startsOf 6 0 4370 7 4096 2) [] (refuses 6 (one (free 4)))
+    -- a text of SIB kind 7 is none: stored as it came, stopped by the zero rules
+    ∷ sample (one (free 4)) (startsOf 7 0 4370 7 5 2) []
+    (leaves (one (textOf 7 4370 7 5 2 0 0 ++ free 3)) (answers 1 4370 16 1 ++ says 16 0 0))
+    ∷ sample (one (free 4)) (startsOf 7 0 4370 7 0 2) [] (leaves (one (free 4)) (answers 1 4370 16 0))
+    ∷ []
+
+-- period 5, requested 2, then three seconds: a row each, and it is live still
+abbrev pub primaryStory : List (List ℕ)
+primaryStory = startsOf 6 0 4370 7 5 2 ∷ passes ∷ passes ∷ passes ∷ []
+
+abbrev pub primaryGives : List Outcome
+primaryGives =
+    leaves (primary 0) (answers 1 4370 16 1 ++ says 16 0 0)
+    ∷ leaves (primary 1) (answers 5 0 0 1 ++ says 16 1 7)
+    ∷ leaves (primary 2) (answers 5 0 0 1 ++ says 16 2 7)
+    ∷ leaves (primary 3) (answers 5 0 0 1 ++ says 16 3 7)
+    ∷ []
+
 -- ---- the program's example: two cells, seven requests
 
 -- 4370/16 with so many sent, and so many seconds to wait
@@ -228,11 +282,13 @@ exampleGives =
     ∷ leaves (two (free 4) (free 4)) (answers 2 4370 16 0)
     ∷ []
 
--- ---- THE CLAIM: each row is as it says; the example's heads build the empty table, and its requests have these outcomes
+-- ---- THE CLAIM: each row is as it says; the example's heads build the empty table, and its requests have these outcomes, as those of the primary have
 
 pub record SamplesHold : Type 0 where
   pub marked : AllHold samples
   pub further : AllHold furtherSamples
+  pub primaries : AllHold primarySamples
+  pub primary-runs : run (one (free 4)) primaryStory ≡ primaryGives
   pub builds : built (head 16 1 ++ head 32 2) (replicate 230 9)
       ≡ record { number = 0; length = 224; buffer = two (free 4) (free 4) ++ replicate 6 9 }
   pub runs : run (two (free 4) (free 4)) example ≡ exampleGives

@@ -65,6 +65,9 @@ pub const FIRST_SIB: u8 = 6;
 
 pub const LAST_SIB: u8 = 8;
 
+// An earthquake primary's.
+pub const PRIMARY_SIB: u8 = 6;
+
 // ---- the request record
 
 pub const RECORD: usize = 26;

@@ -1,10 +1,6 @@
 -- `grant` leaves what an accepted request leaves: the walk's table and rows behind the answer's head, or an answer without rows.
 -- By the two cases of an idle start.
-use mathlib.Core.Path.{_≡_, refl, sym, ap, _∙_}
-use native.Mathlib.Omega.{arith}
-use Rattle.rules.specs.Table.{placeBytes}
-use Rattle.rules.specs.InCell.{newPlace}
-use Rattle.rules.specs.declared.Request.{Request}
+use mathlib.Core.Path.{sym, _∙_}
 use Rattle.engine.proofs.ApplyLaws.{long-record, long-table, answer-room, idle-granted, walk-granted, to-walk, short-period, call-req, call-table}
 use borrow.Author.Needs.{needs}
 use Rattle.engine.proofs.apply.grant.Statement.{statement}
@@ -30,7 +26,7 @@ returns c =
 new-bytes-requires : tie.Need-new-bytes-requires
 new-bytes-requires c κs =
     let p = c .before .before .before .before .before .before in
-    (long-record _ (call-req _ _ _ (p .pre)), short-period (p .args .table .now) (p .args .req .now) (p .args .answer .now) (λ i. c .before .before .before .before .before .slice-known .given i .fits) (λ i. c .before .before .before .before .shared-slice-known .given i .fits) (p .pre) _ refl)
+    short-period (p .args .table .now) (p .args .req .now) (p .args .answer .now) (λ i. c .before .before .before .before .before .slice-known .given i .fits) (λ i. c .before .before .before .before .shared-slice-known .given i .fits) (p .pre) _ (c .before .before .request .ensures)
 
 cells-of-requires : tie.Need-cells-of-requires
 cells-of-requires c κs = long-table _ (call-table _ _ _ (c .before .before .before .before .before .before .before .before .before .pre))
@@ -49,7 +45,7 @@ walk-requires c κs =
       all-cells = c .before .before .before .cells-of .ensures;
       all-items = c .before .before .count .ensures;
       request = c .before .before .before .before .before .before .before .before .before .request .ensures;
-      to-step = to-walk (p .args .table .now) (p .args .req .now) (p .args .answer .now) (λ i. c .before .before .before .before .before .before .before .before .before .before .before .before .slice-known .given i .fits) (λ i. c .before .before .before .before .before .before .before .before .before .before .before .shared-slice-known .given i .fits) (p .pre) _ (c .before .before .before .before .before .before .before .before .before .request .ensures) (sym (c .before .before .before .before .before .before .before .before .idle .ensures) ∙ c .before .before .before .before .before .before .before .if1 .left) _ (c .before .before .before .before .before .before .new-bytes .ensures ∙ ap (λ (x : Request). placeBytes (newPlace x)) (sym (c .before .before .before .before .before .before .before .before .before .request .ensures)));
+      to-step = to-walk (p .args .table .now) (p .args .req .now) (p .args .answer .now) (λ i. c .before .before .before .before .before .before .before .before .before .before .before .before .slice-known .given i .fits) (λ i. c .before .before .before .before .before .before .before .before .before .before .before .shared-slice-known .given i .fits) (p .pre) _ (c .before .before .before .before .before .before .before .before .before .request .ensures) (sym (c .before .before .before .before .before .before .before .before .idle .ensures) ∙ c .before .before .before .before .before .before .before .if1 .left) _ (c .before .before .before .before .before .before .new-bytes .ensures);
     }
 
 cast-put-head : tie.Need-cast-put-head

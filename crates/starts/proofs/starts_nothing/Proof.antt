@@ -1,9 +1,9 @@
--- `starts_nothing` returns what the zero rules say.
+-- `starts_nothing` returns what the zero rules say of a text that is no primary.
 -- The code's tests are the definition's.
 use mathlib.Core.Path.{refl}
 use Rattle.rules.specs.InCell.{startsNothing}
-use Rattle.routines.proofs.start.starts_nothing.Statement.{statement}
-use Rattle.routines.proofs.start.starts_nothing.Tie as tie
+use Rattle.starts.proofs.starts_nothing.Statement.{statement}
+use Rattle.starts.proofs.starts_nothing.Tie as tie
 
 returns : tie.Need-returns
 unfolding startsNothing

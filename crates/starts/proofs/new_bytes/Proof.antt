@@ -1,0 +1,21 @@
+-- `new_bytes` returns the bytes of the place that a Write-Replace makes.
+-- Its two calls, one behind the other; a new place's period is within its limit because the request's is.
+use Rattle.rules.specs.InCell.{newPlace}
+use Rattle.rules.proofs.StartLaws.{new-short}
+use native.Mathlib.Omega.{arith}
+use borrow.Author.Needs.{needs}
+use Rattle.starts.proofs.new_bytes.Statement.{statement}
+use Rattle.starts.proofs.new_bytes.Tie as tie
+
+new-place-requires : tie.Need-new-place-requires
+new-place-requires c κs = search needs
+
+place-bytes-requires : tie.Need-place-bytes-requires
+unfolding newPlace
+place-bytes-requires c κs = rw (c .new-place .ensures) (new-short (c .before .args .request) (c .before .pre), omega arith)
+
+returns : tie.Need-returns
+returns c = rw (c .place-bytes .ensures, c .before .new-place .ensures)
+
+pub new-bytes-spec : {M : Type 1} → statement M
+new-bytes-spec = tie.close (tie.spec new-place-requires place-bytes-requires returns)

@@ -1,0 +1,52 @@
+// What a Write-Replace comes to before any cell is looked at: whether it starts anything, and the place that it makes.
+use places::place_bytes;
+use rules::Broadcasts;
+use rules::Place;
+use rules::Request;
+use rules::Seconds;
+use rules::layout::PLACE;
+use rules::layout::PRIMARY_SIB;
+ghost use mathlib.Core.Path.{_≡_};
+ghost use Prim.Native.Nat.{_≤_};
+ghost use Rattle.rules.specs.Layout.{longestPeriod};
+ghost use Rattle.rules.specs.Table.{placeBytes};
+ghost use Rattle.rules.specs.InCell.{startsNothing, newPlace};
+
+// The zero rules, which a primary skips.
+pub fn starts_nothing(request: Request) -> bool
+    ensures { λ r. ⌜ r ≡ startsNothing request ⌝ }
+{
+    (request.sib != PRIMARY_SIB)
+        & (((request.requested.0 == 0) & (request.flags % 2 != 1))
+            | ((request.period.0 == 0) & (request.requested.0 != 1)))
+}
+
+// A primary goes out every second until it is stopped, whatever period and count it came with.
+fn new_place(request: Request) -> Place
+    ensures { λ r. ⌜ r ≡ newPlace request ⌝ }
+{
+    let mut period = request.period;
+    let mut requested = request.requested;
+    if request.sib == PRIMARY_SIB {
+        period = Seconds(1);
+        requested = Broadcasts(0);
+    }
+    Place {
+        identifier: request.identifier,
+        serial: request.serial,
+        content: request.content,
+        period: period,
+        requested: requested,
+        sent: Broadcasts(0),
+        wait: Seconds(0),
+        sib: request.sib,
+    }
+}
+
+// Made once for a request, and stored in each cell that has a place for it.
+pub fn new_bytes(request: Request) -> [u8; PLACE]
+    requires { ⌜ request .period .0 ≤ longestPeriod ⌝ }
+    ensures { λ r. ⌜ r ≡ placeBytes (newPlace request) ⌝ }
+{
+    place_bytes(new_place(request))
+}
