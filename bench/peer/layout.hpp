@@ -17,6 +17,7 @@ constexpr uint32_t LARGEST_PERIOD = 4095;
 enum Kind : uint8_t { WRITE_REPLACE = 1, CANCEL, RESTART, FAILURE, SECOND };
 enum Flag : uint8_t { CONCURRENT = 1, CANCEL_ALL = 2, NOTIFICATION = 4 };
 enum Area : uint8_t { NO_AREA, CELLS, TRACKING_AREAS, EMERGENCY_AREAS };
+enum SibKind : uint8_t { ETWS_PRIMARY = 6, ETWS_SECONDARY, CMAS };
 
 // Bytes as they lie, for what is only compared or moved: no need to turn them round.
 template <class Number> Number raw(const uint8_t *from) {

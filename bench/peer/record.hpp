@@ -34,7 +34,7 @@ uint32_t field_refusal(const pws_request &r, size_t items) {
 // 0, 6 or 7. "any" has each bit that is set in any item: a limit that is a power of 2 needs no more.
 uint32_t value_refusal(const pws_request &r, uint64_t any) {
     static constexpr int WIDTH[] = {0, 60, 48, 24};
-    if (r.kind == WRITE_REPLACE && (r.period > LARGEST_PERIOD || r.sib < 6 || r.sib > 8)) {
+    if (r.kind == WRITE_REPLACE && (r.period > LARGEST_PERIOD || r.sib < ETWS_PRIMARY || r.sib > CMAS)) {
         return 6;
     }
     if (any >> WIDTH[r.area] != 0) {

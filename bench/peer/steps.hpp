@@ -48,16 +48,24 @@ struct Start {
 
     explicit Start(const uint8_t *record) : concurrent(record[6] & CONCURRENT) {
         std::memcpy(place, record + 8, 8);
-        std::memcpy(place + PERIOD, record + 18, 2);
-        std::memcpy(place + REQUESTED, record + 20, 2);
         place[SIB] = record[22];
         place[LIVE] = 1;
+        if (primary()) {
+            // "stored with period 1 and requested 0, so it goes out every second until stopped"
+            put16(place + PERIOD, 1);
+        } else {
+            std::memcpy(place + PERIOD, record + 18, 2);
+            std::memcpy(place + REQUESTED, record + 20, 2);
+        }
     }
 
-    // "a request starts nothing if requested is 0 without flag 1, or if period is 0 and requested is not 1"
+    bool primary() const { return place[SIB] == ETWS_PRIMARY; }
+
+    // "a request starts nothing if requested is 0 without flag 1, or if period is 0 and requested is not 1". A primary "skips the
+    // zero rules".
     bool nothing() const {
         const uint16_t period = be16(place + PERIOD), requested = be16(place + REQUESTED);
-        return (requested == 0 && !concurrent) || (period == 0 && requested != 1);
+        return !primary() && ((requested == 0 && !concurrent) || (period == 0 && requested != 1));
     }
 
     void in_cell(uint8_t *cell, Rows &rows) const {
