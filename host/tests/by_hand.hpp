@@ -4,8 +4,8 @@
 
 #include "check.hpp"
 
-// A live place of text identifier/16, content 7, SIB 8.
-inline Bytes place(uint16_t identifier, uint16_t period, uint16_t requested, uint16_t sent, uint16_t wait) {
+// A live place of text identifier/16, content 7.
+inline Bytes place(uint16_t identifier, uint16_t period, uint16_t requested, uint16_t sent, uint16_t wait, uint8_t sib = 8) {
     Bytes b;
     put(b, identifier, 2);
     put(b, 16, 2);
@@ -14,7 +14,7 @@ inline Bytes place(uint16_t identifier, uint16_t period, uint16_t requested, uin
     put(b, requested, 2);
     put(b, sent, 2);
     put(b, wait, 2);
-    put(b, 8, 1);
+    put(b, sib, 1);
     put(b, 1, 1);
     b.resize(20);
     return b;

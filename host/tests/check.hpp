@@ -68,8 +68,13 @@ inline Bytes head(uint64_t identity, uint32_t code, const std::vector<uint32_t> 
     return b;
 }
 
-inline pws_request start(uint16_t identifier, uint32_t period, uint16_t requested, uint8_t flags = 0) {
-    return {1, flags, 0, identifier, 16, 7, period, requested, 8};
+inline pws_request start(uint16_t identifier, uint32_t period, uint16_t requested, uint8_t flags = 0, uint8_t sib = 8) {
+    return {1, flags, 0, identifier, 16, 7, period, requested, sib};
+}
+
+// A start of SIB kind 6.
+inline pws_request primary(uint16_t identifier, uint32_t period, uint16_t requested, uint8_t flags = 0) {
+    return start(identifier, period, requested, flags, 6);
 }
 
 inline pws_request cancel(uint8_t flags, uint16_t identifier, uint16_t serial, uint8_t area = 0) {

@@ -96,10 +96,12 @@ static void place_rules() {
         {5, 3, 2, 4, 0},       {5, 3, 3, 0, 2},       {5, 3, 4, 0, 2},    {5, 65535, 65534, 0, 0}, {5, 65535, 65535, 0, 2},
     };
     for (const auto &[period, requested, sent, wait, number] : places) {
-        const Bytes in_place = place(1, period, requested, sent, wait);
-        expect(table_gives(number, table_of({cell(head(FIRST, 1), {in_place}), cell(head(SECOND, 2), {})})),
-               "a place of period " + std::to_string(period) + ", requested " + std::to_string(requested) + ", sent " +
-                   std::to_string(sent) + ", wait " + std::to_string(wait));
+        for (uint8_t sib = 6; sib <= 8; ++sib) {
+            const Bytes in_place = place(1, period, requested, sent, wait, sib);
+            expect(table_gives(number, table_of({cell(head(FIRST, 1), {in_place}), cell(head(SECOND, 2), {})})),
+                   "a place of period " + std::to_string(period) + ", requested " + std::to_string(requested) + ", sent " +
+                       std::to_string(sent) + ", wait " + std::to_string(wait) + ", SIB kind " + std::to_string(sib));
+        }
     }
 }
 
@@ -115,6 +117,10 @@ static void start_rules() {
     changed("a start's zero byte", sound, record_gives, {{23, 1, 5}});
     changed("a start's period", sound, record_gives, {{16, 1, 6}, {17, 1, 6}, {18, 0x0f, 0}, {18, 0x10, 6}});
     changed("a start's SIB kind", sound, record_gives, {{22, 0, 6}, {22, 5, 6}, {22, 6, 0}, {22, 7, 0}, {22, 9, 6}});
+    for (uint8_t sib = 6; sib <= 8; ++sib) {
+        expect(record_gives(0, record_of(start(4370, 4095, 2, 0, sib))) && record_gives(6, record_of(start(4370, 4096, 2, 0, sib))),
+               "periods up to 4095 with SIB kind " + std::to_string(sib));
+    }
     changed("every item below 2^60", sound, record_gives, {{26, 0x0f, 0}, {26, 0x10, 6}, {34, 0x0f, 0}, {34, 0x10, 6}});
     changed("an area without items", record_of(start(4370, 4095, 3)), record_gives, {{7, 1, 5}, {7, 2, 5}, {7, 3, 5}, {18, 0x10, 6}});
     for (const auto &[area, bits] : {std::pair<uint8_t, int>{1, 60}, {2, 48}, {3, 24}}) {

@@ -1,5 +1,6 @@
-// Document 01's samples through the C surface: P1 to P13 on a table of one cell, and the program's example whole.
-#include "check.hpp"
+// Document 01's samples through the C surface: P1 to P13 on a table of one cell, and the program's example whole. And document
+// 02's earthquake primaries, starts of SIB kind 6, with the bytes that they leave in the table.
+#include "by_hand.hpp"
 
 struct Row {
     uint64_t identity;
@@ -126,6 +127,86 @@ static void cancels() {
     expect(twice().apply(cancel(0, 0, 0)).number == 7, "P13");
 }
 
+// The table of one cell with these places.
+static Bytes holding(const std::vector<Bytes> &places) { return table_of({cell(head(FIRST, 1), places)}); }
+
+static Unit with(const std::vector<Bytes> &places) {
+    Unit unit = one();
+    unit.table = holding(places);
+    return unit;
+}
+
+// What a primary is stored as, and what it is after its broadcasts.
+static Bytes unending(uint16_t sent = 0) { return place(4370, 1, 0, sent, 0, 6); }
+
+// "skips the zero rules and is stored with period 1 and requested 0"
+static void primaries_start() {
+    const uint16_t periods[] = {0, 1, 5, 4095}, counts[] = {0, 1, 2, 65535};
+    for (uint16_t period : periods) {
+        for (uint16_t requested : counts) {
+            for (uint8_t flags = 0; flags <= 1; ++flags) {
+                Unit unit = one();
+                expect(reports(unit.apply(primary(4370, period, requested, flags)), {0}) && unit.table == holding({unending()}),
+                       "a primary of period " + std::to_string(period) + ", requested " + std::to_string(requested) + ", flags " +
+                           std::to_string(flags));
+            }
+        }
+    }
+    expect(one().apply(primary(4370, 4096, 2)).number == 6, "a primary's period has its limit");
+    for (const pws_request &idle : {start(4370, 5, 0, 0, 7), start(4370, 0, 2, 0, 7), start(4370, 0, 0, 1, 7)}) {
+        Unit unit = one();
+        expect(reports(unit.apply(idle), {}) && unit.live() == 0, "the zero rules hold for SIB kind 7");
+    }
+    Unit counted = one();
+    expect(reports(counted.apply(start(4370, 5, 2, 0, 7)), {0}) && counted.table == holding({place(4370, 5, 2, 0, 0, 7)}),
+           "SIB kind 7 keeps its period and count");
+}
+
+// "goes out every second until stopped"
+static void primaries_go_on() {
+    Unit unit = one();
+    unit.apply(primary(4370, 5, 2));
+    for (uint16_t sent = 1; sent <= 3; ++sent) {
+        expect(reports(unit.apply(second), {sent}) && unit.table == holding({unending(sent)}),
+               "a primary's second " + std::to_string(sent));
+    }
+    expect(reports(unit.apply(cancel(4, 4370, 16)), {3}) && unit.live() == 0, "a primary is stopped");
+}
+
+// Repeats, dropped places and full cells are as for any start.
+static void primaries_among_others() {
+    for (const Bytes &live : {place(4370, 5, 2, 1, 3, 6), place(4370, 5, 2, 1, 3, 8), unending(3)}) {
+        for (const pws_request &again : {primary(4370, 5, 2), primary(4370, 5, 0), primary(4370, 0, 2, 1)}) {
+            Unit repeated = with({live});
+            expect(reports(repeated.apply(again), {0}) && repeated.table == holding({live}),
+                   "a primary that repeats a text changes nothing");
+        }
+    }
+    Unit alone = four();
+    expect(reports(alone.apply(primary(4370, 5, 2)), {0}) && alone.table == holding({unending()}), "a primary drops what is live");
+    const Bytes other = place(4371, 5, 2, 1, 3);
+    Unit beside = with({other});
+    expect(reports(beside.apply(primary(4370, 5, 2, 1)), {0}) && beside.table == holding({other, unending()}),
+           "a concurrent primary takes the first free place");
+    Unit full = four();
+    const Bytes before = full.table;
+    expect(reports(full.apply(primary(4370, 5, 2, 1)), {}) && full.table == before, "a concurrent primary needs a free place");
+}
+
+// "SIB 6 places already in a table run on as stored"
+static void stored_primaries() {
+    Unit counted = with({place(4370, 2, 2, 0, 0, 6)});
+    expect(reports(counted.apply(second), {1}) && reports(counted.apply(second), {}) && reports(counted.apply(second), {2}) &&
+               counted.live() == 0,
+           "a stored primary of period 2, requested 2 ends");
+    Unit once = with({place(4370, 0, 1, 0, 0, 6)});
+    expect(reports(once.apply(second), {1}) && once.live() == 0, "a stored primary of period 0, requested 1 ends");
+    Unit slow = with({place(4370, 3, 0, 65534, 1, 6)});
+    expect(reports(slow.apply(second), {}) && reports(slow.apply(second), {65535}) &&
+               slow.table == holding({place(4370, 3, 0, 65535, 2, 6)}),
+           "a stored primary of period 3 keeps its period");
+}
+
 static std::string shown(const pws_request &request, const Outcome &outcome) {
     char line[64];
     std::snprintf(line, sizeof line, "ok %u %zu\n", request.kind, outcome.rows.size());
@@ -171,10 +252,27 @@ static void round_trip() {
            "its items read back");
 }
 
+static void primaries_read_back() {
+    for (const pws_request &request : {primary(4370, 5, 2), primary(4370, 0, 0), primary(4370, 4095, 65535, 1)}) {
+        Bytes record = room(26);
+        const uint64_t none = 0;
+        pws_done done = pws_write(request, &none, 0, record.data(), record.size());
+        pws_reading reading = pws_read(record.data(), record.size());
+        expect(done.number == 0 && record == record_of(request) && reading.number == 0 && reading.request.period == request.period &&
+                   reading.request.requested == request.requested && reading.request.sib == 6,
+               "a primary's record keeps its own period and count");
+    }
+}
+
 int main() {
     starts();
     cancels();
+    primaries_start();
+    primaries_go_on();
+    primaries_among_others();
+    stored_primaries();
     example();
     round_trip();
+    primaries_read_back();
     return report();
 }
