@@ -40,7 +40,9 @@ typedef struct {
 } pws_done;
 
 /* A request without its items. Flags: 1 concurrent, 2 cancel-all, 4 notification present. Areas: 0 none, 1 cells,
- * 2 tracking areas, 3 emergency areas. Kinds: 1 Write-Replace, 2 Cancel or Kill, 3 Restart, 4 Failure, 5 one second. */
+ * 2 tracking areas, 3 emergency areas. Kinds: 1 Write-Replace, 2 Cancel or Kill, 3 Restart, 4 Failure, 5 one second.
+ * A Write-Replace of SIB kind 6, an earthquake primary, starts a text that goes out every second until it is stopped, whatever
+ * its period and requested count, 0 included; a period above 4095 is refused all the same. */
 typedef struct {
     uint8_t kind, flags, area;
     uint16_t identifier, serial;
@@ -71,6 +73,7 @@ pws_done pws_build(const uint8_t *heads, size_t heads_length, uint8_t *table, si
 
 /* Applies one request record to one table, which must be lent with its exact length, and writes the answer at the start of
  * the answer buffer. In the table only the cells that the request reaches change; the bytes behind the answer stay.
+ * A text that is live runs on with the period and count that the table has for it, SIB kind 6 included; a repeat changes neither.
  * The answer buffer must hold 12 + 14 N bytes, or 12 + 56 N for one second, however few rows there will be; the length
  * returned is what was written. Refusals: 1 to 8, the lowest that applies. */
 pws_done pws_apply(uint8_t *table, size_t table_length, const uint8_t *record, size_t record_length, uint8_t *answer, size_t answer_length);

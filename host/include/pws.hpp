@@ -73,7 +73,8 @@ template <class Number, class Of> struct Count {
 using Seconds = Count<std::uint32_t, struct OfSeconds>;
 using Broadcasts = Count<std::uint16_t, struct OfBroadcasts>;
 
-// A request without its items. Which fields a kind leaves 0 stands in document 01's table of kinds.
+// A request without its items. Which fields a kind leaves 0 stands in document 01's table of kinds. A Write-Replace of SIB kind 6, an
+// earthquake primary, starts a text that goes out every second until it is stopped, whatever its period and requested count.
 struct Request {
     Kind kind{};
     Flags flags{};
