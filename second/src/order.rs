@@ -2,7 +2,7 @@
 
 use crate::answer::Row;
 use crate::cell::Cell;
-use crate::place::{Broadcasts, Place, Seconds};
+use crate::place::{Broadcasts, Place, Seconds, EARTHQUAKE_PRIMARY};
 use crate::request::*;
 
 /// An accepted request as what it orders in a cell.
@@ -54,18 +54,34 @@ impl Order {
     }
 }
 
+/// "A SIB 6 Write-Replace now skips the zero rules"
+fn starts_nothing(request: &Request) -> bool {
+    request.sib != EARTHQUAKE_PRIMARY && zero_rules_stop(request)
+}
+
 /// "a request starts nothing if requested is 0 without flag 1, or if period is 0 and requested is
 /// not 1"
-fn starts_nothing(request: &Request) -> bool {
+fn zero_rules_stop(request: &Request) -> bool {
     let endless = request.requested == Broadcasts(0);
     let at_once = request.period == Seconds(0);
     endless && !request.has(CONCURRENT) || at_once && request.requested != Broadcasts(1)
 }
 
 fn new_place(request: &Request) -> Place {
-    let Request { identifier, serial, content, period, requested, sib, .. } = *request;
+    let Request { identifier, serial, content, sib, .. } = *request;
+    let (period, requested) = stored_terms(request);
     let (sent, wait) = (Broadcasts(0), Seconds(0));
     Place { identifier, serial, content, period, requested, sent, wait, sib }
+}
+
+/// An earthquake primary "is stored with period 1 and requested 0, so it goes out every second
+/// until stopped".
+fn stored_terms(request: &Request) -> (Seconds, Broadcasts) {
+    if request.sib == EARTHQUAKE_PRIMARY {
+        (Seconds(1), Broadcasts(0))
+    } else {
+        (request.period, request.requested)
+    }
 }
 
 /// The row of a reported cell, with count 0.

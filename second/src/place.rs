@@ -14,7 +14,9 @@ pub struct Seconds(pub u32);
 pub struct Broadcasts(pub u16);
 
 pub const LARGEST_PERIOD: Seconds = Seconds(4095);
-pub const SIB_KINDS: RangeInclusive<u8> = 6..=8;
+/// The SIB kind of an earthquake primary, an ETWS notice.
+pub const EARTHQUAKE_PRIMARY: u8 = 6;
+pub const SIB_KINDS: RangeInclusive<u8> = EARTHQUAKE_PRIMARY..=8;
 
 const LIVE: u8 = 1;
 
