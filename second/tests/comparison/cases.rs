@@ -20,8 +20,9 @@ pub struct Cases<'a> {
 }
 
 impl Cases<'_> {
-    /// Rounds until at least so many calls are made.
+    /// Starts on all terms, then rounds until at least so many calls are made.
     pub fn run(&mut self, calls: u64) -> Compared {
+        self.starts()?;
         while self.compare.calls < calls {
             self.builds()?;
             self.records()?;
@@ -94,7 +95,7 @@ impl Cases<'_> {
         Ok(())
     }
 
-    fn write(&mut self, record: &Record, buffer: Vec<u8>) -> Compared {
+    pub(super) fn write(&mut self, record: &Record, buffer: Vec<u8>) -> Compared {
         let (request, items) = (record.request, record.items.clone());
         self.compare.call(Call::Write { request, items, record: buffer }).map(drop)
     }

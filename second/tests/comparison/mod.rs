@@ -12,6 +12,7 @@ mod promises;
 pub mod reorder;
 pub mod segments;
 pub mod spoiled;
+mod starts;
 pub mod tables;
 pub mod unit;
 pub mod wrong_tables;

@@ -1,7 +1,7 @@
 //! Records that break one rule each, by name, with the refusal that document 01 gives them.
 
 use second::request::*;
-use second::{CellIdentity, Head, Record, Seconds};
+use second::{CellIdentity, Head, Record, Seconds, SIB_KINDS};
 
 use super::random::Random;
 use super::records::{areas_of, in_area, of_kind, KINDS};
@@ -180,9 +180,11 @@ impl WrongRecords<'_> {
 
     fn break_starts(&mut self) {
         for period in [4096, 4097, 65_535, 65_536, 65_537, 1 << 24, 1 << 31, u32::MAX] {
-            let mut record = of_kind(self.random, self.heads, WRITE_REPLACE);
-            record.request.period = Seconds(period);
-            self.push(format!("period {period}"), 6, record.encode());
+            for sib in SIB_KINDS {
+                let mut record = of_kind(self.random, self.heads, WRITE_REPLACE);
+                (record.request.period, record.request.sib) = (Seconds(period), sib);
+                self.push(format!("period {period}, SIB kind {sib}"), 6, record.encode());
+            }
         }
         for sib in [0, 1, 5, 9, 255] {
             let mut record = of_kind(self.random, self.heads, WRITE_REPLACE);
