@@ -3,15 +3,16 @@
 use second::request::*;
 use second::{
     apply, build, item, read, write, Answer, Area, Broadcasts, Cell, Done, Head, Reading, Record,
-    Refusal, Request, Seconds, Table,
+    Refusal, Request, Seconds, Table, EARTHQUAKE_PRIMARY,
 };
 
+use super::broken_primaries::broken_in_primaries;
 use super::spoiled::*;
 use super::unit::{Functions, SOUND};
 
-type Apply = fn(&mut [u8], &[u8], &mut [u8]) -> Done;
+pub type Apply = fn(&mut [u8], &[u8], &mut [u8]) -> Done;
 
-fn refused(refusal: Refusal) -> Done {
+pub fn refused(refusal: Refusal) -> Done {
     Done { number: refusal.number(), length: 0 }
 }
 
@@ -47,7 +48,9 @@ const APPLYING: [(&str, Apply); 31] = [
     ("a full cell fails the request", a_full_cell_fails_the_request),
     ("a start without an end needs no flag", a_start_without_an_end_needs_no_flag),
     ("period 0 with requested 2 runs", period_0_with_requested_2_runs),
-    ("a repeat is found before the zero rules", a_repeat_is_found_before_the_zero_rules),
+    ("a repeat is found before the zero rules", |t, r, a| {
+        spoiled(t, r, a, repeat_is_found_before_the_zero_rules)
+    }),
     ("the byte behind the answer is zeroed", the_byte_behind_the_answer_is_zeroed),
     ("a refusal clears the answer", a_refusal_clears_the_answer),
     ("the header's zero bytes may be any", the_headers_zero_bytes_may_be_any),
@@ -78,6 +81,7 @@ pub fn broken_units() -> Vec<(&'static str, Functions)> {
         ),
         ("a cut item is filled with zeros", Functions { item: fills_a_cut_item, ..SOUND }),
     ]);
+    units.extend(broken_in_primaries());
     units
 }
 
@@ -151,29 +155,14 @@ fn a_full_cell_fails_the_request(table: &mut [u8], record: &[u8], answer: &mut [
     }
 }
 
-/// Applies a start that is like the given one but for what `change` does to an accepted request.
-fn with_request(
-    table: &mut [u8],
-    record: &[u8],
-    answer: &mut [u8],
-    change: fn(&mut Request),
-) -> Done {
-    match Record::parse(record) {
-        Ok(mut decoded) if decoded.request.kind == WRITE_REPLACE => {
-            change(&mut decoded.request);
-            apply(table, &decoded.encode(), answer)
-        }
-        _ => apply(table, record, answer),
-    }
-}
-
 fn a_start_without_an_end_needs_no_flag(
     table: &mut [u8],
     record: &[u8],
     answer: &mut [u8],
 ) -> Done {
     with_request(table, record, answer, |request| {
-        if request.requested == Broadcasts(0) && request.period > Seconds(0) {
+        let primary = request.sib == EARTHQUAKE_PRIMARY;
+        if !primary && request.requested == Broadcasts(0) && request.period > Seconds(0) {
             request.flags = CONCURRENT;
         }
     })
@@ -185,22 +174,6 @@ fn period_0_with_requested_2_runs(table: &mut [u8], record: &[u8], answer: &mut 
             request.period = Seconds(1);
         }
     })
-}
-
-fn a_repeat_is_found_before_the_zero_rules(
-    table: &mut [u8],
-    record: &[u8],
-    answer: &mut [u8],
-) -> Done {
-    let live = |request: Request, table: &Table| {
-        table.cells.iter().any(|cell| cell.runs((request.identifier, request.serial)))
-    };
-    match (Table::parse(table), Record::parse(record)) {
-        (Ok(cells), Ok(decoded)) if live(decoded.request, &cells) => {
-            with_request(table, record, answer, |request| request.flags = CONCURRENT)
-        }
-        _ => apply(table, record, answer),
-    }
 }
 
 fn the_byte_behind_the_answer_is_zeroed(

@@ -2,6 +2,7 @@
 
 pub mod broken;
 mod broken_packings;
+mod broken_primaries;
 pub mod broken_segments;
 pub mod call;
 pub mod cases;

@@ -8,24 +8,24 @@ use second::{apply, Answer, Area, Broadcasts, Cell, Done, Head, Record, Request,
 pub struct Applied {
     before: Table,
     after: Table,
-    record: Record,
+    pub(super) record: Record,
     answer: Answer,
 }
 
 impl Applied {
-    fn is(&self, kind: u8) -> bool {
+    pub(super) fn is(&self, kind: u8) -> bool {
         self.record.request.kind == kind
     }
 
     /// Each reached cell before and after.
-    fn reached(&mut self) -> impl Iterator<Item = (&Cell, &mut Cell)> {
+    pub(super) fn reached(&mut self) -> impl Iterator<Item = (&Cell, &mut Cell)> {
         let area = Area::of(&self.record);
         let cells = self.before.cells.iter().zip(&mut self.after.cells);
         cells.filter(move |(before, _)| area.reaches(&before.head))
     }
 
     /// A row, count and content 0, for each reached cell that is chosen.
-    fn report(&mut self, chosen: fn(&Cell) -> bool) {
+    fn report(&mut self, chosen: impl Fn(&Cell) -> bool) {
         let cells = self.reached().map(|(before, _)| before).filter(|before| chosen(before));
         let row =
             |cell: &Cell| Row { identity: cell.head.identity, count: Broadcasts(0), content: 0 };
@@ -124,6 +124,14 @@ pub fn repeat_takes_the_new_content(applied: &mut Applied) {
     }
 }
 
+/// A start that the zero rules stop is reported where its text is live.
+pub fn repeat_is_found_before_the_zero_rules(applied: &mut Applied) {
+    let Request { identifier, serial, kind, .. } = applied.record.request;
+    if kind == WRITE_REPLACE && applied.answer.rows.is_empty() {
+        applied.report(|cell| cell.runs((identifier, serial)));
+    }
+}
+
 pub fn start_drops_only_a_full_cell(applied: &mut Applied) {
     let request = applied.record.request;
     if request.kind == WRITE_REPLACE && !request.has(CONCURRENT) {
@@ -185,6 +193,22 @@ pub fn answer_has_no_serial_number(applied: &mut Applied) {
 pub fn cells_from_the_257th_stay(applied: &mut Applied) {
     for (before, after) in applied.before.cells.iter().zip(&mut applied.after.cells).skip(256) {
         after.places.clone_from(&before.places);
+    }
+}
+
+/// Applies a start that is like the given one but for what `change` does to an accepted request.
+pub fn with_request(
+    table: &mut [u8],
+    record: &[u8],
+    answer: &mut [u8],
+    change: fn(&mut Request),
+) -> Done {
+    match Record::parse(record) {
+        Ok(mut decoded) if decoded.request.kind == WRITE_REPLACE => {
+            change(&mut decoded.request);
+            apply(table, &decoded.encode(), answer)
+        }
+        _ => apply(table, record, answer),
     }
 }
 
