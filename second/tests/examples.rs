@@ -41,7 +41,7 @@ fn each_example_is_reported_as_kept() {
         }
     }
     names.sort();
-    assert_eq!(names, ["cancel-first", "example", "merged-queues", "one-yard"]);
+    assert_eq!(names, ["cancel-first", "earthquake", "example", "merged-queues", "one-yard"]);
 }
 
 #[test]
