@@ -18,6 +18,7 @@ pub mod PlaceCodec
 pub mod CellCodec
 pub mod TableCodec
 pub mod SecondLaws
+pub mod PrimaryLaws
 pub mod InCellLaws
 pub mod StepLaws
 pub mod AppliedLaws
