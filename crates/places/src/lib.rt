@@ -1,4 +1,4 @@
-// Changes to a cell's places, in place: no byte is written that stays as it is, but for the places that move.
+// Changes to a cell's places, in place: no byte is written that stays as it is, but for the places that move. And the bytes of a place.
 use cell::read::Counts;
 use octets::get32;
 use octets::get64;
@@ -125,7 +125,7 @@ pub fn free_all(cell: &mut [u8])
     }
 }
 
-// `new` has the bytes of the place, made once for a request.
+// `new` has the bytes of the place.
 pub fn add_place(cell: &mut [u8], k: usize, new: &[u8])
     requires { ⌜ FreeAt (now cell) k ⌝ }
     requires { ⌜ OnePlace (now new) ⌝ }
@@ -135,6 +135,7 @@ pub fn add_place(cell: &mut [u8], k: usize, new: &[u8])
     store(cell, HEAD + PLACE * k, words);
 }
 
+// The bytes of a live place, as `add_place` takes them.
 pub fn place_bytes(place: Place) -> [u8; PLACE]
     requires { ⌜ (place .period .0 ≤ longestPeriod) × (place .wait .0 ≤ longestPeriod) ⌝ }
     ensures { λ r. ⌜ r ≡ placeBytes place ⌝ }
