@@ -57,12 +57,13 @@ const APPLYING: [(&str, Apply); 31] = [
     ("the record's zero byte may be any", |t, r, a| apply(t, &with_byte(r, 23, 0), a)),
 ];
 
+pub fn faulty_in_applying(faults: &[(&'static str, Apply)]) -> Vec<(&'static str, Functions)> {
+    faults.iter().map(|(name, apply)| (*name, Functions { apply: *apply, ..SOUND })).collect()
+}
+
 /// All broken units, by name.
 pub fn broken_units() -> Vec<(&'static str, Functions)> {
-    let mut units: Vec<(&str, Functions)> = APPLYING
-        .iter()
-        .map(|(name, apply)| (*name, Functions { apply: *apply, ..SOUND }))
-        .collect();
+    let mut units = faulty_in_applying(&APPLYING);
     units.extend([
         ("room is judged before the heads", Functions { build: room_before_heads, ..SOUND }),
         ("a built table keeps old bytes", Functions { build: keeps_old_bytes, ..SOUND }),

@@ -4,7 +4,7 @@ use second::request::*;
 use second::{apply, read, write, Broadcasts, Done, Place, Reading, Record, Refusal, Request};
 use second::{Seconds, Table, EARTHQUAKE_PRIMARY, LARGEST_PERIOD};
 
-use super::broken::{refused, Apply};
+use super::broken::{faulty_in_applying, refused, Apply};
 use super::spoiled::{spoiled, with_request, Applied};
 use super::unit::{Functions, SOUND};
 
@@ -47,10 +47,7 @@ const APPLYING: [(&str, Apply); 13] = [
 
 /// All of them, by name.
 pub fn broken_in_primaries() -> Vec<(&'static str, Functions)> {
-    let mut units: Vec<(&str, Functions)> = APPLYING
-        .iter()
-        .map(|(name, apply)| (*name, Functions { apply: *apply, ..SOUND }))
-        .collect();
+    let mut units = faulty_in_applying(&APPLYING);
     units.extend([
         ("the reader gives a primary's stored terms", Functions { read: reads_stored, ..SOUND }),
         ("the writer writes a primary's stored terms", Functions { write: writes_stored, ..SOUND }),
