@@ -20,7 +20,7 @@ target/bin/report: $(PROVED)
 	@touch $@
 
 # The host's programs. The tests are built with sanitizers; libpws.a itself is not instrumented.
-HOST_TESTS = samples wrapper rules edges segments
+HOST_TESTS = samples wrapper rules edges segments periods conversion
 HOST_FLAGS = -std=c++20 -Wall -Wextra -Wpedantic -Wconversion -Werror -Ihost/include
 HOST_NEEDS = $(wildcard host/include/* host/tests/*.hpp) target/staticlib/libpws.a
 

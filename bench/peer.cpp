@@ -1,5 +1,6 @@
 // The engine as a C++ team would write it by hand, to time the proved one against: in place on the bytes, with the same
 // tests for the same refusals. The surface is pws.h's with peer_ in front; documents 01 and 02 are the law here as there.
+#include "peer/convert.hpp"
 #include "peer/reach.hpp"
 #include "peer/record.hpp"
 #include "peer/segments.hpp"
@@ -47,7 +48,7 @@ void happen(uint8_t *table, const uint8_t *record, size_t length, Rows &rows) {
 
 extern "C" pws_done peer_apply(uint8_t *table, size_t table_length, const uint8_t *record, size_t record_length, uint8_t *answer,
                                size_t answer_length) {
-    if (const uint32_t number = table_refusal(table, table_length)) {
+    if (const uint32_t number = table_refusal<Version2>(table, table_length)) {
         return {number, 0};
     }
     if (const uint32_t number = record_refusal(record, record_length)) {
@@ -59,7 +60,7 @@ extern "C" pws_done peer_apply(uint8_t *table, size_t table_length, const uint8_
     }
     Rows rows = {answer + ANSWER_HEADER};
     happen(table, record, record_length, rows);
-    put_mark(answer, 'A');
+    put_mark(answer, 'A', ANSWER_VERSION);
     answer[5] = record[5];
     put_raw(answer + 6, raw<uint32_t>(record + 8));
     put16(answer + 10, rows.count);
@@ -81,15 +82,25 @@ extern "C" pws_done peer_build(const uint8_t *heads, size_t heads_length, uint8_
     if (table_length < length) {
         return {8, 0};
     }
-    put_mark(table, 'T');
-    put16(table + 5, cells);
-    table[7] = PLACES;
-    std::memset(table + 8, 0, 8);
+    put_table_header(table, cells);
     for (size_t k = 0; k < cells; ++k) {
         uint8_t *const cell = table + TABLE_HEADER + CELL * k;
         std::memcpy(cell, heads + HEAD * k, HEAD);
         free_all(cell);
     }
+    return {0, length};
+}
+
+extern "C" pws_done peer_convert(const uint8_t *old, size_t old_length, uint8_t *table, size_t table_length) {
+    if (const uint32_t number = table_refusal<Version1>(old, old_length)) {
+        return {number, 0};
+    }
+    const size_t cells = be16(old + 5), length = TABLE_HEADER + CELL * cells;
+    if (table_length < length) {
+        return {8, 0};
+    }
+    put_table_header(table, cells);
+    convert_cells(old + TABLE_HEADER, table + TABLE_HEADER, cells);
     return {0, length};
 }
 
@@ -111,7 +122,7 @@ extern "C" pws_done peer_write(pws_request request, const uint64_t *items, size_
     for (size_t k = 0; k < count; ++k) {
         any |= items[k];
     }
-    if (const uint32_t number = value_refusal(request, any)) {
+    if (const uint32_t number = value_refusal(request, any, LONGEST_PERIOD)) {
         return {number, 0};
     }
     const size_t length = RECORD_HEADER + ITEM * count;

@@ -1,4 +1,4 @@
-// Document 01's layouts: offsets, numbers in bytes, marks.
+// Documents 01's and 02's layouts: offsets, numbers in bytes, marks and versions.
 #pragma once
 
 #include <cstddef>
@@ -7,12 +7,14 @@
 
 namespace {
 
-constexpr size_t TABLE_HEADER = 16, HEAD = 24, PLACE = 20, PLACES = 4, CELL = HEAD + PLACES * PLACE, MOST_CELLS = 512;
+constexpr size_t TABLE_HEADER = 16, HEAD = 24, PLACE = 24, PLACES = 4, CELL = HEAD + PLACES * PLACE, MOST_CELLS = 512;
 constexpr size_t RECORD_HEADER = 26, ITEM = 8, MOST_ITEMS = 512;
 constexpr size_t ANSWER_HEADER = 12, ROW = 14;
 constexpr size_t CODE = 8, USED = 11, AREAS = 12, AREA = 3, MOST_AREAS = 4;
-constexpr size_t CONTENT = 4, PERIOD = 8, REQUESTED = 10, SENT = 12, WAIT = 14, SIB = 16, LIVE = 17;
-constexpr uint32_t LARGEST_PERIOD = 4095;
+constexpr size_t CONTENT = 4, PERIOD = 8, REQUESTED = 12, SENT = 14, WAIT = 16, SIB = 20, LIVE = 21;
+// Tables and records have two versions each. An answer has the first alone.
+constexpr uint8_t ANSWER_VERSION = 1;
+constexpr uint32_t OLD_LONGEST_PERIOD = 4095, LONGEST_PERIOD = 131'071;
 
 enum Kind : uint8_t { WRITE_REPLACE = 1, CANCEL, RESTART, FAILURE, SECOND };
 enum Flag : uint8_t { CONCURRENT = 1, CANCEL_ALL = 2, NOTIFICATION = 4 };
@@ -38,14 +40,16 @@ void put16(uint8_t *to, uint16_t n) { put_raw(to, __builtin_bswap16(n)); }
 void put32(uint8_t *to, uint32_t n) { put_raw(to, __builtin_bswap32(n)); }
 void put64(uint8_t *to, uint64_t n) { put_raw(to, __builtin_bswap64(n)); }
 
-bool has_mark(const uint8_t *bytes, char last) {
-    const char mark[] = {'P', 'W', last, 0, 1};
-    return std::memcmp(bytes, mark, sizeof mark) == 0;
+// 0 where the mark is wrong. A version of 256 or more is no version either.
+uint8_t version(const uint8_t *bytes, char last) {
+    const char mark[] = {'P', 'W', last, 0};
+    return std::memcmp(bytes, mark, sizeof mark) == 0 ? bytes[4] : 0;
 }
 
-void put_mark(uint8_t *bytes, char last) {
-    const char mark[] = {'P', 'W', last, 0, 1};
+void put_mark(uint8_t *bytes, char last, uint8_t version) {
+    const char mark[] = {'P', 'W', last, 0};
     std::memcpy(bytes, mark, sizeof mark);
+    bytes[4] = version;
 }
 
 }

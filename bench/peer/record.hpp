@@ -6,6 +6,9 @@
 
 namespace {
 
+// The one that is written. The old one is read under the old limit.
+constexpr uint8_t OLD_RECORD_VERSION = 1, RECORD_VERSION = 2;
+
 bool zero_fields_zero(const pws_request &r) {
     switch (r.kind) {
     case WRITE_REPLACE:
@@ -32,9 +35,9 @@ uint32_t field_refusal(const pws_request &r, size_t items) {
 }
 
 // 0, 6 or 7. "any" has each bit that is set in any item: a limit that is a power of 2 needs no more.
-uint32_t value_refusal(const pws_request &r, uint64_t any) {
+uint32_t value_refusal(const pws_request &r, uint64_t any, uint32_t longest_period) {
     static constexpr int WIDTH[] = {0, 60, 48, 24};
-    if (r.kind == WRITE_REPLACE && (r.period > LARGEST_PERIOD || r.sib < ETWS_PRIMARY || r.sib > CMAS)) {
+    if (r.kind == WRITE_REPLACE && (r.period > longest_period || r.sib < ETWS_PRIMARY || r.sib > CMAS)) {
         return 6;
     }
     if (any >> WIDTH[r.area] != 0) {
@@ -49,7 +52,7 @@ pws_request fields(const uint8_t *record) {
 }
 
 void put_fields(uint8_t *record, const pws_request &r, uint16_t items) {
-    put_mark(record, 'R');
+    put_mark(record, 'R', RECORD_VERSION);
     record[5] = r.kind;
     record[6] = r.flags;
     record[7] = r.area;
@@ -65,7 +68,11 @@ void put_fields(uint8_t *record, const pws_request &r, uint16_t items) {
 
 // 0 or 3 to 7.
 uint32_t record_refusal(const uint8_t *record, size_t length) {
-    if (length < RECORD_HEADER || !has_mark(record, 'R')) {
+    if (length < RECORD_HEADER) {
+        return 3;
+    }
+    const uint8_t said = version(record, 'R');
+    if (said != OLD_RECORD_VERSION && said != RECORD_VERSION) {
         return 3;
     }
     const size_t items = be16(record + 24);
@@ -80,7 +87,7 @@ uint32_t record_refusal(const uint8_t *record, size_t length) {
     for (size_t k = 0; k < items; ++k) {
         any |= raw<uint64_t>(record + RECORD_HEADER + ITEM * k);
     }
-    return value_refusal(request, __builtin_bswap64(any));
+    return value_refusal(request, __builtin_bswap64(any), said == OLD_RECORD_VERSION ? OLD_LONGEST_PERIOD : LONGEST_PERIOD);
 }
 
 }

@@ -1,4 +1,4 @@
-// Refusals 1 and 2: whether bytes are a table.
+// Refusals 1 and 2: whether bytes are a table, of one version or the other.
 #pragma once
 
 #include "layout.hpp"
@@ -7,6 +7,37 @@
 #include <bit>
 
 namespace {
+
+// What the rules of a live place ask for. "marks" are SIB kind, live and the zero bytes.
+struct Terms {
+    uint32_t period, wait, marks;
+    uint16_t requested, sent;
+};
+
+struct Version1 {
+    static constexpr uint8_t NUMBER = 1;
+    static constexpr size_t PLACE = 20, COUNTS = 8, MARKS = 16;
+    static constexpr uint32_t LONGEST_PERIOD = OLD_LONGEST_PERIOD;
+
+    static Terms terms(const uint8_t *place) {
+        const uint64_t counts = be64(place + COUNTS);
+        const uint16_t period = counts >> 48, requested = counts >> 32, sent = counts >> 16, wait = counts;
+        return {period, wait, be32(place + MARKS), requested, sent};
+    }
+};
+
+struct Version2 {
+    static constexpr uint8_t NUMBER = 2;
+    static constexpr size_t PLACE = ::PLACE;
+    static constexpr uint32_t LONGEST_PERIOD = ::LONGEST_PERIOD;
+
+    static Terms terms(const uint8_t *place) {
+        const uint64_t counts = be64(place + PERIOD), rest = be64(place + WAIT);
+        const uint32_t period = counts >> 32, wait = rest >> 32, marks = rest;
+        const uint16_t requested = counts >> 16, sent = counts;
+        return {period, wait, marks, requested, sent};
+    }
+};
 
 bool areas_legal(const uint8_t *head) {
     // Which bits of the twelve bytes of areas are filling, by the number of used ones.
@@ -35,23 +66,26 @@ bool head_legal(const uint8_t *head, uint64_t &next) {
     return ordered && areas_legal(head);
 }
 
-// Of a place whose live byte is not 0. The tests are joined without branches, since a table is nearly always legal.
-bool live_place_legal(const uint8_t *place) {
-    const uint64_t counts = be64(place + PERIOD);
-    const uint32_t period = counts >> 48;
-    const uint16_t requested = counts >> 32, sent = counts >> 16, wait = counts;
+// The tests are joined without branches, since a table is nearly always legal.
+template <class Version> bool live_place_legal(const Terms &terms) {
+    const auto [period, wait, marks, requested, sent] = terms;
     // SIB kind, live and the zero bytes: 6, 7 or 8, then 1, 0, 0.
-    const bool marked = std::rotl(be32(place + SIB) - 0x06010000u, 8) <= 2;
-    const bool timed = (period <= LARGEST_PERIOD) & (wait < std::max(period, 1u)) & ((period != 0) | (requested == 1));
+    const bool marked = std::rotl(marks - 0x06010000u, 8) <= 2;
+    const bool timed = (period <= Version::LONGEST_PERIOD) & (wait < std::max(period, 1u)) & ((period != 0) | (requested == 1));
     // Requested 0 wraps to the largest number, which every sent count is within.
     return marked & timed & (sent <= static_cast<uint16_t>(requested - 1));
 }
 
-bool places_legal(const uint8_t *places) {
+template <class Version> bool places_legal(const uint8_t *places) {
+    constexpr size_t PLACE = Version::PLACE;
     size_t live = 0;
-    for (; live < PLACES && places[PLACE * live + LIVE] != 0; ++live) {
+    for (; live < PLACES; ++live) {
         const uint8_t *place = places + PLACE * live;
-        if (!live_place_legal(place)) {
+        const Terms terms = Version::terms(place);
+        if (terms.marks == 0) {
+            break;
+        }
+        if (!live_place_legal<Version>(terms)) {
             return false;
         }
         for (size_t k = 0; k < live; ++k) {
@@ -62,14 +96,15 @@ bool places_legal(const uint8_t *places) {
     }
     uint64_t rest = 0;
     for (const uint8_t *place = places + PLACE * live; place != places + PLACE * PLACES; place += PLACE) {
-        rest |= raw<uint64_t>(place) | raw<uint64_t>(place + 8) | raw<uint32_t>(place + 16);
+        rest |= raw<uint64_t>(place) | raw<uint64_t>(place + 8) | raw<uint64_t>(place + PLACE - 8);
     }
     return rest == 0;
 }
 
 // 0, 1 or 2.
-uint32_t table_refusal(const uint8_t *table, size_t length) {
-    if (length < 5 || !has_mark(table, 'T')) {
+template <class Version> uint32_t table_refusal(const uint8_t *table, size_t length) {
+    constexpr size_t CELL = HEAD + PLACES * Version::PLACE;
+    if (length < 5 || version(table, 'T') != Version::NUMBER) {
         return 1;
     }
     if (length < TABLE_HEADER) {
@@ -81,11 +116,18 @@ uint32_t table_refusal(const uint8_t *table, size_t length) {
     }
     uint64_t next = 0;
     for (const uint8_t *cell = table + TABLE_HEADER; cell != table + length; cell += CELL) {
-        if (!head_legal(cell, next) || !places_legal(cell + HEAD)) {
+        if (!head_legal(cell, next) || !places_legal<Version>(cell + HEAD)) {
             return 2;
         }
     }
     return 0;
+}
+
+void put_table_header(uint8_t *table, size_t cells) {
+    put_mark(table, 'T', Version2::NUMBER);
+    put16(table + 5, cells);
+    table[7] = PLACES;
+    std::memset(table + 8, 0, 8);
 }
 
 }

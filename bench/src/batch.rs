@@ -52,7 +52,9 @@ impl Batch {
     pub fn of(call: &Call) -> Batch {
         let (table, out, bytes) = match call {
             Call::Apply { table, answer, .. } => (table.clone(), answer.clone(), table.len()),
-            Call::Build { table, .. } => (vec![], table.clone(), table.len()),
+            Call::Build { table, .. } | Call::Convert { table, .. } => {
+                (vec![], table.clone(), table.len())
+            }
             Call::Read { record } => (vec![], vec![], record.len()),
             Call::Write { record, .. } => (vec![], record.clone(), record.len()),
             Call::Item { .. } => panic!("no workload is an item alone"),
@@ -96,6 +98,7 @@ impl Batch {
                 copies.for_each(|copy| done(surface.apply(&mut copy[..length], record, out)));
             }
             Call::Build { heads, .. } => (0..calls).for_each(|_| done(surface.build(heads, out))),
+            Call::Convert { old, .. } => (0..calls).for_each(|_| done(surface.convert(old, out))),
             Call::Read { record } => (0..calls).for_each(|_| {
                 black_box(surface.read(record));
             }),

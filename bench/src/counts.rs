@@ -39,6 +39,7 @@ fn count(workload: &Workload, surface: &Surface) -> io::Result<u64> {
 fn function(call: &Call) -> &'static str {
     match call {
         Call::Build { .. } => "build",
+        Call::Convert { .. } => "convert",
         Call::Apply { .. } => "apply",
         Call::Read { .. } => "read",
         Call::Write { .. } => "write",

@@ -11,6 +11,8 @@ const SEED: u64 = 1;
 const CALLS: u64 = 30_000;
 /// What lies at a bound alone takes some 13,000.
 const CALLS_ON_SEGMENTS: u64 = 20_000;
+/// Most of them on tables once they are converted.
+const CALLS_ON_CONVERSIONS: u64 = 20_000;
 
 /// The calls compared, or the first difference.
 pub fn check(workloads: &[Workload]) -> Result<u64, Difference> {
@@ -21,7 +23,9 @@ fn pair(other: &Surface, workloads: &[Workload]) -> Result<u64, Difference> {
     let compare = Compare::new([(OURS.name, &OURS), (other.name, other)]);
     let mut cases = Cases { compare, random: Random::new(SEED) };
     cases.run(CALLS)?;
+    cases.run_largest_period()?;
     cases.run_segments(cases.compare.calls + CALLS_ON_SEGMENTS)?;
+    cases.run_conversions(cases.compare.calls + CALLS_ON_CONVERSIONS)?;
     for workload in workloads {
         cases.compare.call(workload.call.clone())?;
     }

@@ -25,6 +25,17 @@ pub unsafe extern "C" fn second_build(
 }
 
 #[no_mangle]
+pub unsafe extern "C" fn second_convert(
+    old: *const u8,
+    old_length: usize,
+    table: *mut u8,
+    table_length: usize,
+) -> CDone {
+    let table = unsafe { from_raw_parts_mut(table, table_length) };
+    c_done(second::convert(unsafe { from_raw_parts(old, old_length) }, table))
+}
+
+#[no_mangle]
 pub unsafe extern "C" fn second_apply(
     table: *mut u8,
     table_length: usize,

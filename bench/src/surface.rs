@@ -6,7 +6,8 @@ use second::{Broadcasts, Done, Reading, Request, Seconds};
 use crate::comparison::part::Part;
 use crate::comparison::unit::Unit;
 use crate::second_c::{
-    second_apply, second_build, second_item, second_pack, second_read, second_segment, second_write,
+    second_apply, second_build, second_convert, second_item, second_pack, second_read,
+    second_segment, second_write,
 };
 
 #[repr(C)]
@@ -45,6 +46,7 @@ pub struct CPart {
 }
 
 pub type Build = unsafe extern "C" fn(*const u8, usize, *mut u8, usize) -> CDone;
+pub type Convert = unsafe extern "C" fn(*const u8, usize, *mut u8, usize) -> CDone;
 pub type Apply = unsafe extern "C" fn(*mut u8, usize, *const u8, usize, *mut u8, usize) -> CDone;
 pub type Read = unsafe extern "C" fn(*const u8, usize) -> CReading;
 pub type Write = unsafe extern "C" fn(CRequest, *const u64, usize, *mut u8, usize) -> CDone;
@@ -58,6 +60,7 @@ pub struct Surface {
     /// What its functions' names begin with.
     pub prefix: &'static str,
     build: Build,
+    convert: Convert,
     apply: Apply,
     read: Read,
     write: Write,
@@ -66,11 +69,12 @@ pub struct Surface {
     pack: Pack,
 }
 
-/// A C library's seven functions, and the surface that they make.
+/// A C library's eight functions, and the surface that they make.
 macro_rules! surface {
-    ($surface:ident, $name:literal, $prefix:literal, $build:ident, $apply:ident, $read:ident, $write:ident, $item:ident, $segment:ident, $pack:ident) => {
+    ($surface:ident, $name:literal, $prefix:literal, $build:ident, $convert:ident, $apply:ident, $read:ident, $write:ident, $item:ident, $segment:ident, $pack:ident) => {
         extern "C" {
             fn $build(heads: *const u8, length: usize, table: *mut u8, room: usize) -> CDone;
+            fn $convert(old: *const u8, length: usize, table: *mut u8, room: usize) -> CDone;
             #[rustfmt::skip]
             fn $apply(
                 table: *mut u8,
@@ -113,6 +117,7 @@ macro_rules! surface {
             name: $name,
             prefix: $prefix,
             build: $build,
+            convert: $convert,
             apply: $apply,
             read: $read,
             write: $write,
@@ -124,14 +129,15 @@ macro_rules! surface {
 }
 
 #[rustfmt::skip]
-surface!(OURS, "ours", "pws", pws_build, pws_apply, pws_read, pws_write, pws_item, pws_segment, pws_pack);
+surface!(OURS, "ours", "pws", pws_build, pws_convert, pws_apply, pws_read, pws_write, pws_item, pws_segment, pws_pack);
 #[rustfmt::skip]
-surface!(PEER, "peer", "peer", peer_build, peer_apply, peer_read, peer_write, peer_item, peer_segment, peer_pack);
+surface!(PEER, "peer", "peer", peer_build, peer_convert, peer_apply, peer_read, peer_write, peer_item, peer_segment, peer_pack);
 
 pub const SECOND: Surface = Surface {
     name: "second",
     prefix: "second",
     build: second_build,
+    convert: second_convert,
     apply: second_apply,
     read: second_read,
     write: second_write,
@@ -186,6 +192,11 @@ impl Unit for Surface {
     #[inline]
     fn build(&self, heads: &[u8], table: &mut [u8]) -> Done {
         done(unsafe { (self.build)(heads.as_ptr(), heads.len(), table.as_mut_ptr(), table.len()) })
+    }
+
+    #[inline]
+    fn convert(&self, old: &[u8], table: &mut [u8]) -> Done {
+        done(unsafe { (self.convert)(old.as_ptr(), old.len(), table.as_mut_ptr(), table.len()) })
     }
 
     #[inline]

@@ -1,6 +1,6 @@
 //! The tables of the workloads: cells of one operator, their emergency areas and live places.
 
-use second::{Broadcasts, Cell, CellIdentity, Head, Place, Seconds, Table};
+use second::{Broadcasts, Cell, CellIdentity, Head, Layout, Place, Seconds, Table};
 
 const PLMN: u64 = 0x00f110;
 pub const IDENTIFIER: u16 = 4370;
@@ -54,11 +54,20 @@ fn place(serial: u16, due: Due) -> Place {
     }
 }
 
-/// A table of so many cells with so many live places each. The places' order turns from cell to
-/// cell, so that a text is found in each place equally often.
+/// A table of so many cells with so many live places each.
 pub fn table(cells: usize, live: u16, due: Due) -> Vec<u8> {
+    of(cells, live, due).encode()
+}
+
+/// A table of version 1, for the converter.
+pub fn old_table(cells: usize, live: u16, due: Due) -> Vec<u8> {
+    of(cells, live, due).encode_in(&Layout::VERSION_1)
+}
+
+/// The places' order turns from cell to cell, so that a text is found in each place equally often.
+fn of(cells: usize, live: u16, due: Due) -> Table {
     let places =
         |k: u64| (0..live).map(move |j| place(SERIAL + (j + (k % 4) as u16) % live, due)).collect();
     let cell = |k: u64| Cell { head: head(k), places: places(k) };
-    Table { cells: (0..cells as u64).map(cell).collect() }.encode()
+    Table { cells: (0..cells as u64).map(cell).collect() }
 }

@@ -1,11 +1,11 @@
 //! The workloads: each is one call, with its buffers as they are before it.
 
 use second::request::*;
-use second::{Answer, Broadcasts, Cell, Record, Request, Seconds, Table};
+use second::{Answer, Broadcasts, Cell, Layout, Record, Request, Seconds, Table};
 
 use crate::comparison::call::Call;
 use crate::comparison::lists::{packed, Packing, MOST};
-use crate::tables::{heads, identity, table, Due, IDENTIFIER, SERIAL};
+use crate::tables::{heads, identity, old_table, table, Due, IDENTIFIER, SERIAL};
 
 pub const MOST_CELLS: usize = 512;
 const SIZES: [usize; 3] = [1, 16, MOST_CELLS];
@@ -122,9 +122,11 @@ fn refusals(cells: usize) -> Vec<(&'static str, Call)> {
     ]
 }
 
-fn build(cells: usize) -> Vec<(&'static str, Call)> {
-    let table = vec![0xee; Table::HEADER + Cell::LENGTH * cells];
-    vec![("build", Call::Build { heads: heads(cells), table })]
+fn whole_tables(cells: usize) -> Vec<(&'static str, Call)> {
+    let (heads, table) = (heads(cells), vec![0xee; Layout::CURRENT.table(cells)]);
+    let old = old_table(cells, 4, Due::Nothing);
+    let convert = Call::Convert { old, table: table.clone() };
+    vec![("build", Call::Build { heads, table }), ("convert", convert)]
 }
 
 fn records(items: usize) -> Vec<(&'static str, Call)> {
@@ -157,7 +159,7 @@ fn family(of: Family, sizes: &[usize]) -> Vec<Workload> {
 
 /// All of them, a workload's sizes together.
 pub fn all() -> Vec<Workload> {
-    let cells: [Family; 6] = [seconds, cancels, starts, resets, refusals, build];
+    let cells: [Family; 6] = [seconds, cancels, starts, resets, refusals, whole_tables];
     let of_cells = cells.into_iter().flat_map(|of| family(of, &SIZES));
     let of_records = family(records, &RECORD_SIZES);
     of_cells.chain(of_records).chain(family(lists, &LIST_SIZES)).collect()

@@ -96,6 +96,6 @@ int main() {
         unit.apply("a second passes", SECOND);
     }
     pws::Request too_slow = FLOOD;
-    too_slow.period = pws::Seconds{4096};
-    return unit.apply("start it every 4096 seconds", too_slow) ? 1 : 0;
+    too_slow.period = pws::Seconds{pws::layout::LONGEST_PERIOD + 1};
+    return unit.apply("start it every 131072 seconds", too_slow) ? 1 : 0;
 }

@@ -8,13 +8,19 @@
  *   - the buffers of one call do not overlap;
  *   - nobody else touches a buffer during the call.
  *
+ * Versions stand in the bytes 3 and 4:
+ *   tables   2, with cells of 120 bytes. Tables of older libraries are of version 1, with cells of 104: see pws_convert
+ *   records  1 and 2, of one layout. Version 1 has periods up to 4095, version 2 up to 131,071; pws_write writes version 2
+ *   answers  1
+ *
  * A number other than 0 is a refusal; the length is then 0 and no byte of any buffer has changed:
- *   1  table shorter than 5 bytes, wrong mark or version
+ *   1  table shorter than 5 bytes, wrong mark or version: pws_apply takes version 2 alone, pws_convert version 1 alone
  *   2  table wrong in any other way
  *   3  record shorter than 26 bytes, wrong mark or version
  *   4  more than 512 items, or the record's length is not 26 + 8 n
  *   5  unknown kind, a flag, area or item count that is not allowed, a zero field that is not zero
- *   6  Write-Replace with a period above 4095 or a SIB kind that is not 6 to 8; an item too large for its area
+ *   6  Write-Replace with a period above 131,071, or above 4095 in a version 1 record, or with a SIB kind that is not 6 to 8;
+ *      an item too large for its area
  *   7  Cancel with neither flag 2 nor flag 4
  *   8  output buffer too short
  *   9  heads: length no multiple of 24, not 1 to 512 of them, a bad head or wrong order
@@ -42,7 +48,7 @@ typedef struct {
 /* A request without its items. Flags: 1 concurrent, 2 cancel-all, 4 notification present. Areas: 0 none, 1 cells,
  * 2 tracking areas, 3 emergency areas. Kinds: 1 Write-Replace, 2 Cancel or Kill, 3 Restart, 4 Failure, 5 one second.
  * A Write-Replace of SIB kind 6, an earthquake primary, starts a text that goes out every second until it is stopped, whatever
- * its period and requested count, 0 included; a period above 4095 is refused all the same. */
+ * its period and requested count, 0 included; a period above the limit is refused all the same. */
 typedef struct {
     uint8_t kind, flags, area;
     uint16_t identifier, serial;
@@ -67,23 +73,34 @@ typedef struct {
     size_t length;
 } pws_part;
 
-/* Writes an empty table of heads_length / 24 cells at the start of table: 16 + 104 N bytes, which is the length returned.
+/* Writes an empty table of heads_length / 24 cells at the start of table: 16 + 120 N bytes, which is the length returned.
  * The bytes behind them stay. Refusals: 9, then 8. */
 pws_done pws_build(const uint8_t *heads, size_t heads_length, uint8_t *table, size_t table_length);
 
-/* Applies one request record to one table, which must be lent with its exact length, and writes the answer at the start of
- * the answer buffer. In the table only the cells that the request reaches change; the bytes behind the answer stay.
+/* Writes a version 1 table, lent with its exact length of 16 + 104 N, as a version 2 table of the same cells at the start of
+ * table: 16 + 120 N bytes, which is the length returned. The bytes behind them stay, and so does the old table.
+ *
+ * Where pws_apply gives 1 for a table that an older library accepted, that table is of version 1. Convert it once, into a second
+ * buffer, and lend that one from then on, with its own length. Every text runs on where it was: the count sent and the seconds
+ * still to wait are carried, so it goes out in the same seconds as it would have. A table that is of version 2 already gives 1
+ * here. Records need no conversion.
+ *
+ * Refusals in this order: 1 (any version but 1), 2 (by version 1's rules, with periods up to 4095), 8. */
+pws_done pws_convert(const uint8_t *old, size_t old_length, uint8_t *table, size_t table_length);
+
+/* Applies one request record to one table of version 2, which must be lent with its exact length, and writes the answer at the
+ * start of the answer buffer. In the table only the cells that the request reaches change; the bytes behind the answer stay.
  * A text that is live runs on with the period and count that the table has for it, SIB kind 6 included; a repeat changes neither.
  * The answer buffer must hold 12 + 14 N bytes, or 12 + 56 N for one second, however few rows there will be; the length
  * returned is what was written. Refusals: 1 to 8, the lowest that applies. */
 pws_done pws_apply(uint8_t *table, size_t table_length, const uint8_t *record, size_t record_length, uint8_t *answer, size_t answer_length);
 
-/* The fields and the count of items of a record. The items stay in the record: see pws_item. Refusals: 3 to 7, the lowest
- * that applies. */
+/* The fields and the count of items of a record of either version. The items stay in the record: see pws_item. Refusals: 3 to
+ * 7, the lowest that applies. */
 pws_reading pws_read(const uint8_t *record, size_t record_length);
 
-/* Writes a record of 26 + 8 count bytes at the start of record, which is the length returned; the bytes behind it stay.
- * What it writes, pws_read reads back as the same fields and items. Refusals in this order: 4 (count above 512), 5, 6, 7, 8. */
+/* Writes a record of version 2, 26 + 8 count bytes at the start of record, which is the length returned; the bytes behind it
+ * stay. What it writes, pws_read reads back as the same fields and items. Refusals in this order: 4 (count above 512), 5, 6, 7, 8. */
 pws_done pws_write(pws_request request, const uint64_t *items, size_t count, uint8_t *record, size_t record_length);
 
 /* The k-th item of a record, counted from 0, as a number; 0 where the record ends before it. */

@@ -17,7 +17,7 @@
 
 namespace pws {
 
-// Document 01's sizes, limits and fields, each here only.
+// Documents 01's and 02's sizes, limits and fields, each here only.
 namespace layout {
 
 // A number in big-endian bytes.
@@ -31,9 +31,11 @@ inline constexpr std::size_t MOST_CELLS = 512;
 inline constexpr std::size_t MOST_ITEMS = 512;
 inline constexpr std::size_t PLACES = 4;
 inline constexpr std::size_t EMERGENCY_AREAS = 4;
+inline constexpr std::uint32_t LONGEST_PERIOD = 131071;
 
 inline constexpr std::size_t TABLE_HEADER = 16;
-inline constexpr std::size_t CELL = 104;
+inline constexpr std::size_t CELL = 120;
+inline constexpr std::size_t OLD_CELL = 104; // of a version 1 table
 inline constexpr std::size_t HEAD = 24;
 inline constexpr std::size_t RECORD_HEADER = 26;
 inline constexpr std::size_t ITEM = 8;
@@ -112,8 +114,9 @@ struct Row {
     bool operator==(const Row &) const noexcept = default;
 };
 
-// The sizes of buffers, for counts that document 01 allows.
+// The sizes of buffers, for counts that document 01 allows. An old table is one of version 1, as convert takes it.
 constexpr std::size_t table_size(std::size_t cells) noexcept { return layout::TABLE_HEADER + layout::CELL * cells; }
+constexpr std::size_t old_table_size(std::size_t cells) noexcept { return layout::TABLE_HEADER + layout::OLD_CELL * cells; }
 constexpr std::size_t record_size(std::size_t items) noexcept { return layout::RECORD_HEADER + layout::ITEM * items; }
 
 // The room that a request asks for, however few rows there will be: a second may give a row for each place.
@@ -218,8 +221,15 @@ inline Done build(std::span<const std::uint8_t> heads, std::span<std::uint8_t> t
     return detail::done(pws_build(detail::lent(heads), heads.size(), detail::lent(table), table.size()), table);
 }
 
-// Applies one record to one table, lent with its exact length (what build gave as written), and writes the answer, for which there
-// must be answer_size. Refusals: table_mark to short_buffer, the lowest that applies.
+// Writes a version 1 table, lent with its exact length, as a table of version 2, for which there must be table_size. Its texts run on
+// where they were. Once is enough: apply gives table_mark for the one, and this for the other. Refusals: table_mark, table_wrong,
+// short_buffer.
+inline Done convert(std::span<const std::uint8_t> old, std::span<std::uint8_t> table) noexcept {
+    return detail::done(pws_convert(detail::lent(old), old.size(), detail::lent(table), table.size()), table);
+}
+
+// Applies one record to one table, lent with its exact length (what build or convert gave as written), and writes the answer, for
+// which there must be answer_size. Refusals: table_mark to short_buffer, the lowest that applies.
 inline Done apply(std::span<std::uint8_t> table, std::span<const std::uint8_t> record, std::span<std::uint8_t> answer) noexcept {
     return detail::done(
         pws_apply(detail::lent(table), table.size(), detail::lent(record), record.size(), detail::lent(answer), answer.size()), answer);
@@ -235,7 +245,7 @@ inline Reading read(std::span<const std::uint8_t> record) noexcept {
             reading.items};
 }
 
-// Writes a record, which read gives back. Refusals: record_length (too many items) to short_buffer.
+// Writes a record of version 2, which read gives back. Refusals: record_length (too many items) to short_buffer.
 inline Done write(const Request &request, std::span<const std::uint64_t> items, std::span<std::uint8_t> record) noexcept {
     const auto byte = [](auto number) { return static_cast<std::uint8_t>(number); };
     const pws_request fields = {byte(request.kind), byte(request.flags),   byte(request.area),       request.identifier, request.serial,

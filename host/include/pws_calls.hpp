@@ -30,13 +30,15 @@ enum class Refusal : std::uint32_t {
 constexpr std::string_view text(Refusal refusal) noexcept {
     switch (refusal) {
     case Refusal::none: return "accepted";
-    case Refusal::table_mark: return "the table is shorter than 5 bytes, or its mark or version is wrong";
+    case Refusal::table_mark:
+        return "the table is shorter than 5 bytes, or its mark or version is wrong: apply takes version 2, convert version 1";
     case Refusal::table_wrong: return "the table's bytes break a rule of tables";
     case Refusal::record_mark: return "the record is shorter than 26 bytes, or its mark or version is wrong";
     case Refusal::record_length: return "the record has more than 512 items, or its length is not that of its items";
     case Refusal::record_fields:
         return "the kind is unknown, or does not allow a flag, the area, the item count or a field that is not zero";
-    case Refusal::record_limits: return "the period is above 4095, the SIB kind is not 6 to 8, or an item is too large for its area";
+    case Refusal::record_limits:
+        return "the period is above 131071 (4095 in a version 1 record), the SIB kind is not 6 to 8, or an item is too large for its area";
     case Refusal::cancels_nothing: return "the cancel has neither cancel-all nor a notification";
     case Refusal::short_buffer: return "the output buffer is too short";
     case Refusal::bad_heads: return "the heads are not 1 to 512 good heads in ascending order";

@@ -6,7 +6,7 @@ cd "$(dirname "$0")/../.."
 . host/tests/check.sh
 out=target/host/last.txt
 
-for test in target/host/{samples,wrapper,rules,edges,segments} host/tests/{example,compilers,readme,install,ctest}.sh; do
+for test in target/host/{samples,wrapper,rules,edges,segments,periods,conversion} host/tests/{example,compilers,readme,install,ctest}.sh; do
     echo "== $test"
     if "$test" 2>&1 | tee "$out" && [[ $(tail -n 1 "$out") =~ ^([0-9]+)\ passed,\ 0\ failed$ ]]; then
         passed=$((passed + BASH_REMATCH[1]))

@@ -21,6 +21,12 @@ inline Left build_at(Flush flush, const Bytes &heads, const Bytes &table) {
     return {done.number, done.length, {to.bytes()}, from.alone() && to.alone()};
 }
 
+inline Left convert_at(Flush flush, const Bytes &old, const Bytes &table) {
+    const Guarded from(old, flush, Lent::for_reading), to(table, flush, Lent::for_writing);
+    const pws_done done = pws_convert(from.data(), from.size(), to.data(), to.size());
+    return {done.number, done.length, {to.bytes()}, from.alone() && to.alone()};
+}
+
 inline Left apply_at(Flush flush, const Bytes &table, const Bytes &record, const Bytes &answer) {
     const Guarded on(table, flush, Lent::for_writing), by(record, flush, Lent::for_reading), to(answer, flush, Lent::for_writing);
     const pws_done done = pws_apply(on.data(), on.size(), by.data(), by.size(), to.data(), to.size());
@@ -63,6 +69,10 @@ inline bool gave(uint32_t number, size_t length, const Left &at_end, const Left 
 
 inline bool build_gives(uint32_t number, size_t length, const Bytes &heads, const Bytes &table) {
     return gave(number, length, build_at(Flush::end, heads, table), build_at(Flush::front, heads, table), {table});
+}
+
+inline bool convert_gives(uint32_t number, size_t length, const Bytes &old, const Bytes &table) {
+    return gave(number, length, convert_at(Flush::end, old, table), convert_at(Flush::front, old, table), {table});
 }
 
 inline bool apply_gives(uint32_t number, size_t length, const Bytes &table, const Bytes &record, const Bytes &answer) {

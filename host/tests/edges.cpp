@@ -35,20 +35,20 @@ static void guards() {
 static void builds() {
     const auto heads_cut = [](size_t length) {
         const bool whole = length == 24 || length == 48;
-        return build_gives(whole ? 0 : 9, whole ? 16 + 104 * (length / 24) : 0, cut(HEADS, length), room(224));
+        return build_gives(whole ? 0 : 9, whole ? NEW.table(length / 24) : 0, cut(HEADS, length), room(256));
     };
     each_length(HEADS.size(), heads_cut, "heads cut at every length");
-    const auto into = [](size_t length) { return build_gives(length < 224 ? 8 : 0, length < 224 ? 0 : 224, HEADS, room(length)); };
-    each_length(224 + 2, into, "a table built into every length");
-    expect(build_at(Flush::end, HEADS, room(224)).buffers[0] == table_of({cell(head(FIRST, 1, {5, 9}), {}), cell(head(SECOND, 2), {})}),
+    const auto into = [](size_t length) { return build_gives(length < 256 ? 8 : 0, length < 256 ? 0 : 256, HEADS, room(length)); };
+    each_length(256 + 2, into, "a table built into every length");
+    expect(build_at(Flush::end, HEADS, room(256)).buffers[0] == table_of({cell(head(FIRST, 1, {5, 9}), {}), cell(head(SECOND, 2), {})}),
            "an empty table");
     std::vector<Bytes> many;
     for (uint32_t k = 1; k <= 513; ++k) {
         many.push_back(head(k, k));
     }
-    expect(build_gives(9, 0, joined(many), room(16 + 104 * 513)) && build_gives(9, 0, joined(many), room(0)), "513 heads, 9 before 8");
+    expect(build_gives(9, 0, joined(many), room(NEW.table(513))) && build_gives(9, 0, joined(many), room(0)), "513 heads, 9 before 8");
     many.pop_back();
-    expect(build_gives(0, 53264, joined(many), room(53264)) && build_gives(8, 0, joined(many), room(53263)), "512 heads");
+    expect(build_gives(0, 61456, joined(many), room(61456)) && build_gives(8, 0, joined(many), room(61455)), "512 heads");
 }
 
 // Every kind with every area that it may have, and how many cells it reports.
@@ -91,7 +91,7 @@ static void cut_tables() {
         const uint32_t number = length < 5 ? 1 : length == TABLE.size() ? 0 : 2;
         return apply_gives(number, number == 0 ? 26 : 0, cut(TABLE, length), record_of(second), room(124));
     };
-    each_length(TABLE.size() + 120, gives, "tables cut at every length, and too long");
+    each_length(TABLE.size() + NEW.cell + 1, gives, "tables cut at every length, and too long");
 }
 
 static void cut_records() {
@@ -104,7 +104,7 @@ static void cut_records() {
 }
 
 static void writes() {
-    const pws_request request = in(1, start(4370, 4095, 65535, 1));
+    const pws_request request = in(1, start(4370, 131071, 65535, 1));
     const auto into = [&](size_t length) {
         return write_gives(length < 42 ? 8 : 0, length < 42 ? 0 : 42, request, {FIRST, SECOND}, room(length));
     };

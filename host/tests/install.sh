@@ -29,10 +29,19 @@ by_pkg_config() {
         g++ -std=c++20 host/example/two_yards.cpp "${flags[@]}" -o "$root/by_pkg_config"
 }
 
-by_find_package() {
-    cmake -S host/tests/consumer -B "$root/consumer" -DCMAKE_PREFIX_PATH="$root/prefix" -DPWS_VERSION="$version" >/dev/null &&
-        cmake --build "$root/consumer" >/dev/null
+# finds VERSION: whether a host that asks for this version, as find_package takes it, is configured.
+finds() {
+    rm -rf "$root/consumer"
+    cmake -S host/tests/consumer -B "$root/consumer" -DCMAKE_PREFIX_PATH="$root/prefix" -DPWS_VERSION="$1" >/dev/null 2>&1
 }
+
+finds_no_other_version() {
+    for other in 0.1.0 0.1 "${version%.*}.99" "$((${version%%.*} + 1)).0.0"; do
+        ! finds "$other" || return 1
+    done
+}
+
+by_find_package() { finds "$version;EXACT" && cmake --build "$root/consumer" >/dev/null; }
 
 by_cmake() {
     cmake -S host -B "$root/build" >/dev/null && cmake --install "$root/build" --prefix "$root/by_cmake" >/dev/null
@@ -53,6 +62,8 @@ else
 fi
 
 if command -v cmake >/dev/null; then
+    check "a host that asks for another version" finds_no_other_version
+    check "a host that asks for this minor version" finds "${version%.*}"
     check "the example by find_package" by_find_package
     check "it prints the same" prints_the_same "$root/consumer/two_yards"
     check "cmake --install" by_cmake

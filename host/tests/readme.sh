@@ -16,7 +16,7 @@ says_what_it_prints() {
 rm -rf "$blocks"
 mkdir -p "$blocks"
 awk -v to="$blocks" '/^```cpp$/ { inside = 1; ++n; next } /^```$/ { inside = 0 } inside { print >(to "/" n ".cpp") }' "$readme"
-check "two C++ blocks" test -s "$blocks/2.cpp"
+check "three C++ blocks" test -s "$blocks/3.cpp"
 for source in "$blocks"/*.cpp; do
     program=${source%.cpp}
     check "$program compiles" g++ -std=c++20 -Wall -Wextra -Werror -Ihost/include "$source" target/staticlib/libpws.a -o "$program"

@@ -1,5 +1,6 @@
 // Every rule of heads, tables and records broken once, and each limit at and above it, at the guards of edges.cpp: the number
-// that document 01 gives, and the lowest where several apply.
+// that document 01 gives, and the lowest where several apply. Tables of version 2 are judged by applying, those of version 1 by
+// converting, and but for lengths and limits by the same rules.
 #include "at_guards.hpp"
 #include "by_hand.hpp"
 
@@ -37,11 +38,26 @@ static std::vector<Change> at_each(size_t from, size_t to, uint8_t byte, uint32_
     return changes;
 }
 
-static bool heads_give(uint32_t number, const Bytes &heads) { return build_gives(number, number == 0 ? 224 : 0, heads, room(224)); }
+static bool heads_give(uint32_t number, const Bytes &heads) { return build_gives(number, number == 0 ? 256 : 0, heads, room(256)); }
 
 static bool table_gives(uint32_t number, const Bytes &table) {
     return apply_gives(number, number == 0 ? 40 : 0, table, record_of(restart), room(40));
 }
+
+static bool old_table_gives(uint32_t number, const Bytes &table) { return convert_gives(number, number == 0 ? 256 : 0, table, room(256)); }
+
+// A version's tables, by the two cells that are sound, and who judges them.
+struct Judged {
+    const Version &version;
+    const Bytes &sound;
+    Gives gives;
+
+    std::string named(const std::string &what) const { return what + ", version " + std::to_string(version.number); }
+
+    void changed(const std::string &what, const std::vector<Change> &changes) const { ::changed(named(what), sound, gives, changes); }
+};
+
+static const Judged TABLES[] = {{NEW, TABLE, table_gives}, {OLD, OLD_TABLE, old_table_gives}};
 
 // The reader gives what applying gives on a sound table with room.
 static bool record_gives(uint32_t number, const Bytes &record) {
@@ -61,68 +77,102 @@ static void head_rules() {
     };
     for (const auto &[what, changes] : rules) {
         changed(what, HEADS, heads_give, changes);
-        std::vector<Change> in_table = changes;
-        for (Change &change : in_table) {
-            change = {16 + 104 * (change.at / 24) + change.at % 24, change.byte, change.number == 0 ? 0u : 2u};
+        for (const Judged &tables : TABLES) {
+            std::vector<Change> in_table = changes;
+            for (Change &change : in_table) {
+                change = {tables.version.table(change.at / 24) + change.at % 24, change.byte, change.number == 0 ? 0u : 2u};
+            }
+            tables.changed(what + std::string(", in a table"), in_table);
         }
-        changed(what + std::string(", in a table"), TABLE, table_gives, in_table);
     }
 }
 
-static void table_rules() {
-    expect(table_gives(0, TABLE), "a sound table");
-    changed("a table's mark", TABLE, table_gives, {{0, 'p', 1}, {1, 'w', 1}, {2, 'R', 1}});
-    changed("a table's version", TABLE, table_gives, {{3, 1, 1}, {4, 0, 1}, {4, 2, 1}});
-    changed("the number of cells", TABLE, table_gives, {{5, 1, 2}, {6, 0, 2}, {6, 1, 2}, {6, 3, 2}});
-    changed("places per cell", TABLE, table_gives, {{7, 3, 2}, {7, 5, 2}});
-    changed("zero bytes of the header", TABLE, table_gives, at_each(8, 16, 1, 2));
-    changed("a place's SIB kind", TABLE, table_gives, {{56, 5, 2}, {56, 6, 0}, {56, 7, 0}, {56, 9, 2}});
-    changed("live is 1", TABLE, table_gives, {{57, 0, 2}, {57, 2, 2}});
-    changed("a place's zero bytes", TABLE, table_gives, at_each(58, 60, 1, 2));
-    changed("no text is live twice in a cell", TABLE, table_gives, {{61, 0x12, 2}, {61, 0x14, 0}});
-    changed("a free place is all zero", TABLE, table_gives, at_each(80, 100, 1, 2));
-    changed("in every cell", TABLE, table_gives, at_each(144, 164, 1, 2));
-    expect(table_gives(2, table_of({cell(head(FIRST, 1), {Bytes(20), place(1, 2, 3, 0, 0)}), cell(head(SECOND, 2), {})})),
-           "live places come first");
+static void table_rules(const Judged &tables) {
+    const Version &version = tables.version;
+    std::vector<Change> other_versions = {{3, 1, 1}, {3, version.number, 1}};
+    for (int number = 0; number < 256; ++number) {
+        if (number != version.number) {
+            other_versions.push_back({4, static_cast<uint8_t>(number), 1});
+        }
+    }
+    expect(tables.gives(0, tables.sound), tables.named("a sound table"));
+    tables.changed("a table's mark", {{0, 'p', 1}, {1, 'w', 1}, {2, 'R', 1}});
+    tables.changed("a table's version", other_versions);
+    tables.changed("the number of cells", {{5, 1, 2}, {6, 0, 2}, {6, 1, 2}, {6, 3, 2}});
+    tables.changed("places per cell", {{7, 3, 2}, {7, 5, 2}});
+    tables.changed("zero bytes of the header", at_each(8, 16, 1, 2));
+    const size_t next = 16 + 24 + version.place, sib = next - 4, next_cell = version.table(1);
+    tables.changed("a place's SIB kind", {{sib, 5, 2}, {sib, 6, 0}, {sib, 7, 0}, {sib, 9, 2}});
+    tables.changed("live is 1", {{sib + 1, 0, 2}, {sib + 1, 2, 2}});
+    tables.changed("a place's zero bytes", at_each(sib + 2, next, 1, 2));
+    tables.changed("no text is live twice in a cell", {{next + 1, 0x12, 2}, {next + 1, 0x14, 0}});
+    tables.changed("a free place is all zero", at_each(next + version.place, next_cell, 1, 2));
+    tables.changed("in every cell", at_each(next_cell + 24, tables.sound.size(), 1, 2));
 }
 
-static void place_rules() {
-    const struct {
-        uint16_t period, requested, sent, wait;
-        uint32_t number;
-    } places[] = {
-        {4095, 2, 0, 4094, 0}, {4095, 2, 0, 4095, 2}, {4096, 2, 0, 0, 2}, {0, 1, 0, 0, 0},         {0, 0, 0, 0, 2},
-        {0, 2, 0, 0, 2},       {0, 1, 0, 1, 2},       {0, 1, 1, 0, 2},    {1, 0, 65535, 0, 0},     {1, 0, 0, 1, 2},
-        {5, 3, 2, 4, 0},       {5, 3, 3, 0, 2},       {5, 3, 4, 0, 2},    {5, 65535, 65534, 0, 0}, {5, 65535, 65535, 0, 2},
-    };
+static bool with_places(uint32_t number, const std::vector<Bytes> &places, const Judged &tables) {
+    const Version &version = tables.version;
+    return tables.gives(number, table_of({cell(head(FIRST, 1), places, version), cell(head(SECOND, 2), {}, version)}, version));
+}
+
+// A live place's numbers, and whether they are legal.
+struct Terms {
+    uint32_t period;
+    uint16_t requested, sent;
+    uint32_t wait, number;
+};
+
+static void expect_of_places(const Judged &tables, const std::vector<Terms> &places) {
     for (const auto &[period, requested, sent, wait, number] : places) {
         for (uint8_t sib = 6; sib <= 8; ++sib) {
-            const Bytes in_place = place(1, period, requested, sent, wait, sib);
-            expect(table_gives(number, table_of({cell(head(FIRST, 1), {in_place}), cell(head(SECOND, 2), {})})),
-                   "a place of period " + std::to_string(period) + ", requested " + std::to_string(requested) + ", sent " +
-                       std::to_string(sent) + ", wait " + std::to_string(wait) + ", SIB kind " + std::to_string(sib));
+            expect(with_places(number, {place(1, period, requested, sent, wait, sib, tables.version)}, tables),
+                   tables.named("a place of period " + std::to_string(period) + ", requested " + std::to_string(requested) + ", sent " +
+                                std::to_string(sent) + ", wait " + std::to_string(wait) + ", SIB kind " + std::to_string(sib)));
         }
     }
+}
+
+static void place_rules(const Judged &tables) {
+    const std::vector<Terms> places = {{4095, 2, 0, 4094, 0},   {4095, 2, 0, 4095, 2},  {0, 1, 0, 0, 0}, {0, 0, 0, 0, 2},
+                                       {0, 2, 0, 0, 2},         {0, 1, 0, 1, 2},        {0, 1, 1, 0, 2}, {1, 0, 65535, 0, 0},
+                                       {1, 0, 0, 1, 2},         {5, 3, 2, 4, 0},        {5, 3, 3, 0, 2}, {5, 3, 4, 0, 2},
+                                       {5, 65535, 65534, 0, 0}, {5, 65535, 65535, 0, 2}};
+    const uint32_t longest = tables.version.longest;
+    expect_of_places(tables, places);
+    expect_of_places(tables, {{longest, 2, 0, longest - 1, 0}, {longest, 2, 0, longest, 2}, {longest + 1, 2, 0, 0, 2}});
+    expect(with_places(2, {Bytes(tables.version.place), place(1, 2, 3, 0, 0, 8, tables.version)}, tables),
+           tables.named("live places come first"));
+}
+
+// Seconds above 65,535 are more than their last two bytes.
+static void wide_seconds(const Judged &tables) {
+    const std::vector<Terms> places = {{65536, 3, 0, 65535, 0},  {65536, 3, 0, 65536, 2}, {65537, 3, 0, 65536, 0}, {65536, 3, 0, 0, 0},
+                                       {131071, 3, 0, 65536, 0}, {65540, 3, 0, 3, 0},     {5, 3, 0, 65536, 2},     {196608, 3, 0, 0, 2},
+                                       {5, 3, 0, 0x80000000, 2}, {0x80000005, 3, 0, 3, 2}};
+    expect_of_places(tables, places);
 }
 
 static void start_rules() {
     const Bytes sound = record_of(in(1, start(4370, 2, 3)), {FIRST, SECOND});
     expect(record_gives(0, sound), "a sound start");
     changed("a record's mark", sound, record_gives, {{0, 'p', 3}, {1, 'w', 3}, {2, 'T', 3}});
-    changed("a record's version", sound, record_gives, {{3, 1, 3}, {4, 0, 3}, {4, 2, 3}});
+    changed("a record's version", sound, record_gives, {{3, 1, 3}, {3, 2, 3}, {4, 0, 3}, {4, 1, 0}, {4, 3, 3}, {4, 255, 3}});
     changed("n is that of the items", sound, record_gives, {{24, 2, 4}, {25, 0, 4}, {25, 1, 4}, {25, 3, 4}});
     changed("kinds are 1 to 5", sound, record_gives, {{5, 0, 5}, {5, 6, 5}, {5, 0xff, 5}});
     changed("a start's flags", sound, record_gives, {{6, 1, 0}, {6, 2, 5}, {6, 3, 5}, {6, 4, 5}, {6, 8, 5}, {6, 0x81, 5}});
     changed("an area with items", sound, record_gives, {{7, 0, 5}, {7, 2, 6}, {7, 3, 6}, {7, 4, 5}, {7, 0xff, 5}});
     changed("a start's zero byte", sound, record_gives, {{23, 1, 5}});
-    changed("a start's period", sound, record_gives, {{16, 1, 6}, {17, 1, 6}, {18, 0x0f, 0}, {18, 0x10, 6}});
+    changed("a start's period", sound, record_gives, {{16, 1, 6}, {17, 1, 0}, {17, 2, 6}, {18, 0xff, 0}});
     changed("a start's SIB kind", sound, record_gives, {{22, 0, 6}, {22, 5, 6}, {22, 6, 0}, {22, 7, 0}, {22, 9, 6}});
     for (uint8_t sib = 6; sib <= 8; ++sib) {
-        expect(record_gives(0, record_of(start(4370, 4095, 2, 0, sib))) && record_gives(6, record_of(start(4370, 4096, 2, 0, sib))),
-               "periods up to 4095 with SIB kind " + std::to_string(sib));
+        for (const Version &version : {OLD, NEW}) {
+            const auto lasting = [&](uint32_t period) { return record_of(start(4370, period, 2, 0, sib), {}, version.number); };
+            expect(record_gives(0, lasting(version.longest)) && record_gives(6, lasting(version.longest + 1)),
+                   "periods up to " + std::to_string(version.longest) + " with SIB kind " + std::to_string(sib));
+        }
     }
     changed("every item below 2^60", sound, record_gives, {{26, 0x0f, 0}, {26, 0x10, 6}, {34, 0x0f, 0}, {34, 0x10, 6}});
-    changed("an area without items", record_of(start(4370, 4095, 3)), record_gives, {{7, 1, 5}, {7, 2, 5}, {7, 3, 5}, {18, 0x10, 6}});
+    changed("an area without items", record_of(start(4370, 131071, 3)), record_gives, {{7, 1, 5}, {7, 2, 5}, {7, 3, 5}, {17, 2, 6}});
     for (const auto &[area, bits] : {std::pair<uint8_t, int>{1, 60}, {2, 48}, {3, 24}}) {
         const uint64_t end = uint64_t{1} << bits;
         expect(record_gives(0, record_of(in(area, start(1, 2, 3)), {1, end - 1})) &&
@@ -158,7 +208,7 @@ static void other_kinds() {
 // Everything from some number on is wrong at once.
 static void lowest_number() {
     const Bytes wrong_mark = cut({'P', 'W'}, 40), unmarked_record = cut({'P', 'W', 'T'}, 50), wrong_table = cut(TABLE, 100);
-    pws_request wild = start(1, 5000, 3, 2);
+    pws_request wild = start(1, 200000, 3, 2);
     Bytes miscounted = record_of(wild);
     miscounted[25] = 1;
     const uint64_t too_large = uint64_t{1} << 60;
@@ -177,8 +227,11 @@ static void lowest_number() {
 
 int main() {
     head_rules();
-    table_rules();
-    place_rules();
+    for (const Judged &tables : TABLES) {
+        table_rules(tables);
+        place_rules(tables);
+    }
+    wide_seconds(TABLES[0]);
     start_rules();
     cancel_rules();
     other_kinds();

@@ -1,66 +1,6 @@
 // Document 01's samples through the C surface: P1 to P13 on a table of one cell, and the program's example whole. And document
 // 02's earthquake primaries, starts of SIB kind 6, with the bytes that they leave in the table.
-#include "by_hand.hpp"
-
-struct Row {
-    uint64_t identity;
-    uint16_t count;
-    uint32_t content;
-};
-
-// What an apply leaves: its number and, if accepted, the rows of its answer.
-struct Outcome {
-    uint32_t number;
-    std::vector<Row> rows;
-};
-
-struct Unit {
-    Bytes table;
-
-    explicit Unit(const std::vector<Bytes> &heads) {
-        Bytes all;
-        for (const Bytes &h : heads) {
-            all.insert(all.end(), h.begin(), h.end());
-        }
-        table.resize(16 + 104 * heads.size());
-        pws_done done = pws_build(all.data(), all.size(), table.data(), table.size());
-        expect(done.number == 0 && done.length == table.size(), "build");
-    }
-
-    Outcome apply(const pws_request &request, const std::vector<uint64_t> &items = {}) {
-        Bytes record(26 + 8 * items.size());
-        static const uint64_t none = 0;
-        pws_done written = pws_write(request, items.empty() ? &none : items.data(), items.size(), record.data(), record.size());
-        if (written.number != 0) {
-            return {written.number, {}};
-        }
-        Bytes answer(12 + 56 * ((table.size() - 16) / 104), 0xee);
-        pws_done done = pws_apply(table.data(), table.size(), record.data(), record.size(), answer.data(), answer.size());
-        Outcome outcome{done.number, {}};
-        for (size_t at = 12; done.number == 0 && at < done.length; at += 14) {
-            outcome.rows.push_back(
-                {get(answer, at, 8), static_cast<uint16_t>(get(answer, at + 8, 2)), static_cast<uint32_t>(get(answer, at + 10, 4))});
-        }
-        for (size_t at = done.length; at < answer.size(); ++at) {
-            if (answer[at] != 0xee) {
-                expect(false, "bytes behind the answer stay");
-            }
-        }
-        return outcome;
-    }
-
-    // Of the first cell: live places, and sent of its first place.
-    int live() const {
-        int n = 0;
-        for (size_t at = 16 + 24; at < 16 + 104; at += 20) {
-            n += table[at + 17];
-        }
-        return n;
-    }
-    uint64_t sent() const { return get(table, 16 + 24 + 12, 2); }
-};
-
-static Unit one() { return Unit({head(FIRST, 1)}); }
+#include "unit.hpp"
 
 // A unit with 4370/16 sent twice.
 static Unit twice() {
@@ -80,22 +20,10 @@ static Unit four() {
     return unit;
 }
 
-static bool reports(const Outcome &outcome, std::vector<uint16_t> counts) {
-    if (outcome.number != 0 || outcome.rows.size() != counts.size()) {
-        return false;
-    }
-    for (size_t i = 0; i < counts.size(); ++i) {
-        if (outcome.rows[i].count != counts[i]) {
-            return false;
-        }
-    }
-    return true;
-}
-
 static void starts() {
     Unit p1 = one();
     expect(reports(p1.apply(start(4370, 4095, 2)), {0}) && p1.live() == 1, "P1");
-    expect(one().apply(start(4370, 4096, 2)).number == 6, "P2");
+    expect(one().apply(start(4370, 131072, 2)).number == 6, "P2");
     Unit p3 = one();
     expect(reports(p3.apply(start(4370, 5, 0)), {}) && p3.live() == 0, "P3");
     Unit p4 = one();
@@ -127,22 +55,14 @@ static void cancels() {
     expect(twice().apply(cancel(0, 0, 0)).number == 7, "P13");
 }
 
-// The table of one cell with these places.
-static Bytes holding(const std::vector<Bytes> &places) { return table_of({cell(head(FIRST, 1), places)}); }
-
-static Unit with(const std::vector<Bytes> &places) {
-    Unit unit = one();
-    unit.table = holding(places);
-    return unit;
-}
-
 // What a primary is stored as, and what it is after its broadcasts.
 static Bytes unending(uint16_t sent = 0) { return place(4370, 1, 0, sent, 0, 6); }
 
 // "skips the zero rules and is stored with period 1 and requested 0"
 static void primaries_start() {
-    const uint16_t periods[] = {0, 1, 5, 4095}, counts[] = {0, 1, 2, 65535};
-    for (uint16_t period : periods) {
+    const uint32_t periods[] = {0, 1, 5, 4095, 65536, 131071};
+    const uint16_t counts[] = {0, 1, 2, 65535};
+    for (uint32_t period : periods) {
         for (uint16_t requested : counts) {
             for (uint8_t flags = 0; flags <= 1; ++flags) {
                 Unit unit = one();
@@ -152,7 +72,7 @@ static void primaries_start() {
             }
         }
     }
-    expect(one().apply(primary(4370, 4096, 2)).number == 6, "a primary's period has its limit");
+    expect(one().apply(primary(4370, 131072, 2)).number == 6, "a primary's period has its limit");
     for (const pws_request &idle : {start(4370, 5, 0, 0, 7), start(4370, 0, 2, 0, 7), start(4370, 0, 0, 1, 7)}) {
         Unit unit = one();
         expect(reports(unit.apply(idle), {}) && unit.live() == 0, "the zero rules hold for SIB kind 7");
@@ -253,7 +173,7 @@ static void round_trip() {
 }
 
 static void primaries_read_back() {
-    for (const pws_request &request : {primary(4370, 5, 2), primary(4370, 0, 0), primary(4370, 4095, 65535, 1)}) {
+    for (const pws_request &request : {primary(4370, 5, 2), primary(4370, 0, 0), primary(4370, 131071, 65535, 1)}) {
         Bytes record = room(26);
         const uint64_t none = 0;
         pws_done done = pws_write(request, &none, 0, record.data(), record.size());

@@ -1,5 +1,5 @@
 // pws.hpp's own behaviour: its texts, sizes, empty spans, heads, rows and parts. What the library behind it does is tested elsewhere.
-#include "check.hpp"
+#include "by_hand.hpp"
 #include "pws.hpp"
 
 #include <algorithm>
@@ -12,8 +12,8 @@
 static_assert(std::forward_iterator<pws::Answer::Iterator>);
 static_assert(!std::is_convertible_v<pws::Seconds, pws::Broadcasts> && !std::is_convertible_v<pws::Broadcasts, pws::Seconds>);
 static_assert(!std::is_convertible_v<int, pws::Seconds> && !std::is_convertible_v<int, pws::Broadcasts>);
-static_assert(noexcept(pws::build({}, {})) &&noexcept(pws::apply({}, {}, {})) &&noexcept(pws::read({})));
-static_assert(noexcept(pws::write({}, {}, {})) &&noexcept(pws::item({}, 0)) &&noexcept(pws::text({})));
+static_assert(noexcept(pws::build({}, {})) &&noexcept(pws::convert({}, {})) &&noexcept(pws::apply({}, {}, {})));
+static_assert(noexcept(pws::read({})) &&noexcept(pws::write({}, {}, {})) &&noexcept(pws::item({}, 0)) &&noexcept(pws::text({})));
 static_assert(noexcept(pws::segment({}, {}, 0)) &&noexcept(pws::pack({}, {}, {})) && !std::is_convertible_v<pws::Part, bool>);
 
 static constexpr pws::Request FLOOD{.kind = pws::Kind::write_replace,
@@ -22,7 +22,7 @@ static constexpr pws::Request FLOOD{.kind = pws::Kind::write_replace,
                                     .identifier = 4370,
                                     .serial = 16,
                                     .content = 0x01020304,
-                                    .period = pws::Seconds{4095},
+                                    .period = pws::Seconds{pws::layout::LONGEST_PERIOD},
                                     .requested = pws::Broadcasts{3},
                                     .sib = 8};
 
@@ -38,7 +38,8 @@ static void texts() {
 }
 
 static void sizes() {
-    expect(pws::table_size(1) == 120 && pws::table_size(pws::layout::MOST_CELLS) == 53264, "table sizes are 16 + 104 N");
+    expect(pws::table_size(1) == 136 && pws::table_size(pws::layout::MOST_CELLS) == 61456, "table sizes are 16 + 120 N");
+    expect(pws::old_table_size(1) == 120 && pws::old_table_size(pws::layout::MOST_CELLS) == 53264, "16 + 104 N in version 1");
     expect(pws::record_size(0) == 26 && pws::record_size(pws::layout::MOST_ITEMS) == 4122, "record sizes are 26 + 8 n");
     const auto size = [](pws::Kind kind) { return pws::answer_size(pws::layout::MOST_CELLS, kind); };
     using enum pws::Kind;
@@ -64,6 +65,9 @@ static void empty_spans() {
     expect(pws::build({}, table).refusal == pws::Refusal::bad_heads, "no heads");
     expect(pws::build(heads, {}).refusal == pws::Refusal::short_buffer, "no room for a table");
     expect(bool(pws::build(heads, table)), "a table");
+    expect(pws::convert({}, table).refusal == pws::Refusal::table_mark, "no old table");
+    expect(pws::convert({}, {}).refusal == pws::Refusal::table_mark, "no old table, and no room");
+    expect(pws::convert(OLD_TABLE, {}).refusal == pws::Refusal::short_buffer, "no room for a converted table");
     expect(pws::write(SECOND_PASSES, {}, {}).refusal == pws::Refusal::short_buffer, "no room for a record");
     expect(bool(pws::write(SECOND_PASSES, {}, record)), "a record without items");
     expect(pws::apply({}, record, answer).refusal == pws::Refusal::table_mark, "no table");
@@ -129,6 +133,21 @@ static void rows() {
            "no broadcast, no row");
 }
 
+// A version 1 table is converted once, and what was written is the table from then on.
+static void convert_then_apply() {
+    Bytes buffer(pws::table_size(2) + 1, 0xee), record(pws::record_size(0)), answer(pws::answer_size(2, pws::Kind::second));
+    const pws::Done second = pws::write(SECOND_PASSES, {}, record);
+    Bytes old = OLD_TABLE;
+    expect(old.size() == pws::old_table_size(2), "a version 1 table");
+    expect(pws::apply(old, second.written, answer).refusal == pws::Refusal::table_mark && old == OLD_TABLE, "is not applied to");
+    const pws::Done table = pws::convert(old, buffer);
+    expect(bool(table) && table.written.data() == buffer.data() && table.written.size() == pws::table_size(2) && buffer.back() == 0xee,
+           "a table is converted");
+    expect(std::ranges::equal(table.written, TABLE), "it has document 02's layout");
+    expect(pws::convert(table.written, answer).refusal == pws::Refusal::table_mark, "once");
+    expect(pws::Answer{pws::apply(table.written, second.written, answer).written}.size() == 1, "and it runs on");
+}
+
 // Without a pointer there is no byte to hand back, and a part may have none.
 static void empty_texts() {
     const Bytes first = {1, 2}, list = {0, 0};
@@ -172,7 +191,7 @@ static void refusals_leave_buffers() {
     expect(bool(pws::build(head(FIRST, 1), table)), "a table of one cell");
     const Bytes table_before = table, record_before = record, answer_before = answer;
     pws::Request slow = FLOOD;
-    slow.period = pws::Seconds{4096};
+    slow.period = pws::Seconds{pws::layout::LONGEST_PERIOD + 1};
     const std::array<uint64_t, 1> cells{FIRST};
     const pws::Done unwritten = pws::write(slow, cells, record);
     expect(unwritten.refusal == pws::Refusal::record_limits && unwritten.written.empty() && record == record_before, "a refused record");
@@ -181,6 +200,9 @@ static void refusals_leave_buffers() {
     expect(table == table_before && answer == answer_before, "leaves table and answer");
     const pws::Done unbuilt = pws::build(head(uint64_t{1} << 60, 1), table);
     expect(unbuilt.refusal == pws::Refusal::bad_heads && unbuilt.written.empty() && table == table_before, "a refused table");
+    const pws::Done unconverted = pws::convert(TABLE, table);
+    expect(unconverted.refusal == pws::Refusal::table_mark && unconverted.written.empty() && table == table_before,
+           "a refused conversion");
     const std::array<uint64_t, 64> many{};
     const pws::Done unpacked = pws::pack({}, many, table);
     expect(unpacked.refusal == pws::Refusal::too_many_segments && unpacked.written.empty() && table == table_before, "a refused list");
@@ -194,6 +216,7 @@ int main() {
     heads();
     write_then_read();
     rows();
+    convert_then_apply();
     empty_texts();
     pack_then_ask();
     refusals_leave_buffers();

@@ -1,11 +1,13 @@
 //! The answer and its rows.
 
 use crate::cell::{Cell, CellIdentity};
-use crate::layout::{Fields, Written};
+use crate::fields::{Fields, Written};
 use crate::place::Broadcasts;
 use crate::request::SECOND;
 
 const MARK: &[u8; 3] = b"PWA";
+/// An answer's own; the table's and the record's are in their layouts.
+const VERSION: u16 = 1;
 
 #[derive(Clone, Copy, Debug, PartialEq, Eq)]
 pub struct Row {
@@ -46,11 +48,11 @@ impl Answer {
 
     /// The answer that is exactly these bytes.
     pub fn parse(bytes: &[u8]) -> Option<Answer> {
-        let mut fields = Fields::behind(MARK, bytes)?;
+        let (version, mut fields) = Fields::behind(MARK, bytes)?;
         let (kind, identifier, serial) = (fields.u8()?, fields.u16()?, fields.u16()?);
         let count = usize::from(fields.u16()?);
         let rows = fields.rest();
-        if rows.len() != Row::LENGTH * count {
+        if version != VERSION || rows.len() != Row::LENGTH * count {
             return None;
         }
         let rows = rows.chunks(Row::LENGTH).map(Row::parse).collect::<Option<Vec<Row>>>()?;
@@ -58,7 +60,7 @@ impl Answer {
     }
 
     pub fn encode(&self) -> Vec<u8> {
-        let written = Written::behind(MARK)
+        let written = Written::behind(MARK, VERSION)
             .u8(self.kind)
             .u16(self.identifier)
             .u16(self.serial)
@@ -84,6 +86,7 @@ mod tests {
         assert_eq!(bytes[..12], *b"PWA\x00\x01\x05\x11\x12\x00\x10\x00\x02");
         assert_eq!(Answer::parse(&bytes), Some(answer));
         assert_eq!(Answer::parse(&bytes[..39]), None);
+        assert_eq!(Answer::parse(&[b"PWA\x00\x02", &bytes[5..]].concat()), None);
     }
 
     #[test]

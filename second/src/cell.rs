@@ -1,6 +1,7 @@
 //! A cell: its identity, its head and its live places.
 
-use crate::layout::{all_zero, strictly_ascending, Fields, Written};
+use crate::fields::{all_zero, strictly_ascending, Fields, Written};
+use crate::layout::Layout;
 use crate::place::Place;
 
 /// NR CGI: "24-bit PLMN, then 36 bits". The order of identities is the order of their numbers.
@@ -86,23 +87,23 @@ pub struct Cell {
 
 impl Cell {
     pub const PLACES: usize = 4;
-    pub const LENGTH: usize = Head::LENGTH + Self::PLACES * Place::LENGTH;
+    pub const LENGTH: usize = Layout::CURRENT.cell();
 
     pub fn empty(head: Head) -> Cell {
         Cell { head, places: Vec::new() }
     }
 
-    /// `None` if the 104 bytes break a rule of a cell.
-    pub(crate) fn parse(bytes: &[u8]) -> Option<Cell> {
+    /// `None` if the bytes break a rule of a cell.
+    pub(crate) fn parse(layout: &Layout, bytes: &[u8]) -> Option<Cell> {
         let (head, places) = bytes.split_at_checked(Head::LENGTH)?;
-        Some(Cell { head: Head::parse(head)?, places: parse_places(places)? })
+        Some(Cell { head: Head::parse(head)?, places: parse_places(layout, places)? })
     }
 
-    pub fn encode(&self) -> Vec<u8> {
+    pub(crate) fn encode(&self, layout: &Layout) -> Vec<u8> {
         let written = Written::default().part(&self.head.encode());
         let places =
-            self.places.iter().fold(written, |written, place| written.part(&place.encode()));
-        places.zeros_to(Self::LENGTH).bytes()
+            self.places.iter().fold(written, |written, place| written.part(&place.encode(layout)));
+        places.zeros_to(layout.cell()).bytes()
     }
 
     pub fn is_full(&self) -> bool {
@@ -116,14 +117,14 @@ impl Cell {
 
 /// "A free place is all zero. Live places come first. No two live places of a cell have the same
 /// identifier and serial number."
-fn parse_places(bytes: &[u8]) -> Option<Vec<Place>> {
-    let parts: Vec<&[u8]> = bytes.chunks(Place::LENGTH).collect();
+fn parse_places(layout: &Layout, bytes: &[u8]) -> Option<Vec<Place>> {
+    let parts: Vec<&[u8]> = bytes.chunks(layout.place()).collect();
     let live = parts.iter().take_while(|part| !all_zero(part)).count();
     if parts[live..].iter().any(|part| !all_zero(part)) {
         return None;
     }
-    let places =
-        parts[..live].iter().map(|part| Place::parse(part)).collect::<Option<Vec<Place>>>()?;
+    let places = parts[..live].iter().map(|part| Place::parse(layout, part));
+    let places = places.collect::<Option<Vec<Place>>>()?;
     let mut texts: Vec<(u16, u16)> = places.iter().map(Place::text).collect();
     texts.sort_unstable();
     strictly_ascending(&texts).then_some(places)
@@ -169,15 +170,18 @@ mod tests {
 
     #[test]
     fn live_places_come_first_and_differ() {
-        let full = Cell { head: head(&[5]), places: (0..4).map(place).collect() };
-        assert_eq!(Cell::parse(&full.encode()), Some(full.clone()));
-        let mut gap = full.encode();
-        gap[44..64].fill(0);
-        assert_eq!(Cell::parse(&gap), None);
-        let twice = Cell { head: head(&[5]), places: vec![place(1), place(2), place(1)] };
-        assert_eq!(Cell::parse(&twice.encode()), None);
-        let mut stray = Cell::empty(head(&[5])).encode();
-        stray[103] = 1;
-        assert_eq!(Cell::parse(&stray), None);
+        for layout in [Layout::VERSION_1, Layout::VERSION_2] {
+            let parsed = |bytes: &[u8]| Cell::parse(&layout, bytes);
+            let full = Cell { head: head(&[5]), places: (0..4).map(place).collect() };
+            assert_eq!(parsed(&full.encode(&layout)), Some(full.clone()));
+            let mut gap = full.encode(&layout);
+            gap[Head::LENGTH + layout.place()..][..layout.place()].fill(0);
+            assert_eq!(parsed(&gap), None);
+            let twice = Cell { head: head(&[5]), places: vec![place(1), place(2), place(1)] };
+            assert_eq!(parsed(&twice.encode(&layout)), None);
+            let mut stray = Cell::empty(head(&[5])).encode(&layout);
+            stray[layout.cell() - 1] = 1;
+            assert_eq!(parsed(&stray), None);
+        }
     }
 }

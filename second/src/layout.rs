@@ -1,119 +1,45 @@
-//! Big-endian fields, and the mark with its version that opens a table, a record and an answer.
+//! What the version of a table or a record decides: how wide its counts of seconds are in a place,
+//! and which period is the largest. Everything else is the same in each version.
 
-const VERSION: u16 = 1;
+use crate::cell::{Cell, Head};
+use crate::place::Seconds;
+use crate::table::Table;
 
-/// Takes fields off the front of lent bytes; `None` where the bytes end before the field does.
-pub(crate) struct Fields<'a> {
-    rest: &'a [u8],
+#[derive(Clone, Copy, Debug, PartialEq, Eq)]
+pub struct Layout {
+    pub version: u16,
+    /// The bytes of a place's period, and of its wait. A record has 4 in each version.
+    pub seconds_width: usize,
+    pub largest_period: Seconds,
 }
 
-impl<'a> Fields<'a> {
-    pub fn of(bytes: &'a [u8]) -> Self {
-        Fields { rest: bytes }
+impl Layout {
+    pub const VERSION_1: Layout =
+        Layout { version: 1, seconds_width: 2, largest_period: Seconds(4095) };
+    pub const VERSION_2: Layout =
+        Layout { version: 2, seconds_width: 4, largest_period: Seconds(131_071) };
+    /// What is built, applied to and written.
+    pub const CURRENT: Layout = Layout::VERSION_2;
+
+    /// The bytes of a place's other fields.
+    const OTHER_FIELDS: usize = 16;
+
+    /// `None` of a version that there is not.
+    pub(crate) fn of_version(version: u16) -> Option<Layout> {
+        [Layout::VERSION_1, Layout::VERSION_2].into_iter().find(|layout| layout.version == version)
     }
 
-    /// The fields behind the mark and version 1.
-    pub fn behind(mark: &[u8; 3], bytes: &'a [u8]) -> Option<Self> {
-        let mut fields = Fields::of(bytes);
-        let marked = fields.array::<3>()? == *mark && fields.u16()? == VERSION;
-        marked.then_some(fields)
+    pub const fn place(&self) -> usize {
+        Layout::OTHER_FIELDS + 2 * self.seconds_width
     }
 
-    fn array<const WIDTH: usize>(&mut self) -> Option<[u8; WIDTH]> {
-        let (field, rest) = self.rest.split_first_chunk::<WIDTH>()?;
-        self.rest = rest;
-        Some(*field)
+    pub const fn cell(&self) -> usize {
+        Head::LENGTH + Cell::PLACES * self.place()
     }
 
-    pub fn u8(&mut self) -> Option<u8> {
-        self.array().map(u8::from_be_bytes)
+    pub const fn table(&self, cells: usize) -> usize {
+        Table::HEADER + cells * self.cell()
     }
-
-    pub fn u16(&mut self) -> Option<u16> {
-        self.array().map(u16::from_be_bytes)
-    }
-
-    pub fn u24(&mut self) -> Option<u32> {
-        let [high, middle, low] = self.array()?;
-        Some(u32::from_be_bytes([0, high, middle, low]))
-    }
-
-    pub fn u32(&mut self) -> Option<u32> {
-        self.array().map(u32::from_be_bytes)
-    }
-
-    pub fn u64(&mut self) -> Option<u64> {
-        self.array().map(u64::from_be_bytes)
-    }
-
-    /// The next bytes as they lie.
-    pub fn part(&mut self, length: usize) -> Option<&'a [u8]> {
-        let (part, rest) = self.rest.split_at_checked(length)?;
-        self.rest = rest;
-        Some(part)
-    }
-
-    /// What lies behind the fields taken so far.
-    pub fn rest(&self) -> &'a [u8] {
-        self.rest
-    }
-}
-
-/// Fields put one behind the other.
-#[derive(Default)]
-pub(crate) struct Written {
-    bytes: Vec<u8>,
-}
-
-impl Written {
-    pub fn behind(mark: &[u8; 3]) -> Self {
-        Written::default().part(mark).u16(VERSION)
-    }
-
-    pub fn part(mut self, bytes: &[u8]) -> Self {
-        self.bytes.extend_from_slice(bytes);
-        self
-    }
-
-    pub fn u8(self, value: u8) -> Self {
-        self.part(&[value])
-    }
-
-    pub fn u16(self, value: u16) -> Self {
-        self.part(&value.to_be_bytes())
-    }
-
-    /// The lower 24 bits of the value.
-    pub fn u24(self, value: u32) -> Self {
-        self.part(&value.to_be_bytes()[1..])
-    }
-
-    pub fn u32(self, value: u32) -> Self {
-        self.part(&value.to_be_bytes())
-    }
-
-    pub fn u64(self, value: u64) -> Self {
-        self.part(&value.to_be_bytes())
-    }
-
-    /// Zero bytes up to the given length of the whole.
-    pub fn zeros_to(mut self, length: usize) -> Self {
-        self.bytes.resize(length, 0);
-        self
-    }
-
-    pub fn bytes(self) -> Vec<u8> {
-        self.bytes
-    }
-}
-
-pub(crate) fn all_zero(bytes: &[u8]) -> bool {
-    bytes.iter().all(|byte| *byte == 0)
-}
-
-/// Each value above the one before it.
-pub(crate) fn strictly_ascending<T: PartialOrd>(values: &[T]) -> bool {
-    values.windows(2).all(|pair| pair[0] < pair[1])
 }
 
 #[cfg(test)]
@@ -121,26 +47,16 @@ mod tests {
     use super::*;
 
     #[test]
-    fn fields_come_back_as_written() {
-        let bytes = Written::behind(b"PWX").u8(1).u16(2).u24(3).u32(4).u64(5).zeros_to(25).bytes();
-        let mut fields = Fields::behind(b"PWX", &bytes).unwrap();
-        assert_eq!(fields.u8(), Some(1));
-        assert_eq!(fields.u16(), Some(2));
-        assert_eq!(fields.u24(), Some(3));
-        assert_eq!(fields.u32(), Some(4));
-        assert_eq!(fields.u64(), Some(5));
-        assert_eq!(fields.rest(), [0, 0]);
-        assert_eq!(fields.u24(), None);
-        assert_eq!(fields.part(3), None);
-        assert_eq!(fields.part(2), Some(&[0, 0][..]));
-        assert_eq!(fields.part(0), Some(&[][..]));
+    fn lengths_are_those_of_the_documents() {
+        let lengths = |layout: Layout| (layout.place(), layout.cell(), layout.table(2));
+        assert_eq!(lengths(Layout::VERSION_1), (20, 104, 16 + 104 * 2));
+        assert_eq!(lengths(Layout::VERSION_2), (24, 120, 16 + 120 * 2));
     }
 
     #[test]
-    fn a_mark_is_five_bytes_that_all_count() {
-        assert!(Fields::behind(b"PWX", &[0x50, 0x57, 0x58, 0, 1]).is_some());
-        assert!(Fields::behind(b"PWX", &[0x50, 0x57, 0x58, 0]).is_none());
-        assert!(Fields::behind(b"PWX", &[0x50, 0x57, 0x58, 1, 1]).is_none());
-        assert!(Fields::behind(b"PWX", &[0x50, 0x57, 0x59, 0, 1]).is_none());
+    fn there_are_two_versions() {
+        let known: Vec<u16> =
+            (0..=u16::MAX).filter(|version| Layout::of_version(*version).is_some()).collect();
+        assert_eq!(known, [1, 2]);
     }
 }

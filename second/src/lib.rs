@@ -1,7 +1,7 @@
-//! A second implementation of document 01 and of document 02's texts in segments and earthquake
-//! primaries, written from the documents alone, so that the first one can be compared with it.
-//! Bytes are decoded into cells, places, requests and rows, the rules work on these, and what
-//! changed is encoded again.
+//! A second implementation of document 01 and of document 02's texts in segments, earthquake
+//! primaries and periods above an hour, written from the documents alone, so that the first one can
+//! be compared with it. Bytes are decoded into cells, places, requests and rows, the rules work on
+//! these, and what changed is encoded again.
 
 #![forbid(unsafe_code)]
 
@@ -9,6 +9,8 @@ mod answer;
 mod apply;
 mod area;
 mod cell;
+mod conversion;
+mod fields;
 mod layout;
 mod order;
 mod place;
@@ -21,10 +23,12 @@ mod table;
 pub mod text;
 
 pub use answer::{Answer, Row};
-pub use apply::apply;
+pub use apply::{apply, apply_in};
 pub use area::Area;
 pub use cell::{Cell, CellIdentity, Head};
-pub use place::{Broadcasts, Place, Seconds, EARTHQUAKE_PRIMARY, LARGEST_PERIOD, SIB_KINDS};
+pub use conversion::convert;
+pub use layout::Layout;
+pub use place::{Broadcasts, Place, Seconds, EARTHQUAKE_PRIMARY, SIB_KINDS};
 pub use record::{item, read, write, Reading, Record};
 pub use refusal::{Done, Refusal};
 pub use report::report;

@@ -1,6 +1,7 @@
 //! The request record: reading it, writing it, and its items.
 
-use crate::layout::{Fields, Written};
+use crate::fields::{Fields, Written};
+use crate::layout::Layout;
 use crate::place::{Broadcasts, Seconds};
 use crate::refusal::{lay, Done, Refusal};
 use crate::request::Request;
@@ -21,7 +22,15 @@ impl Record {
 
     /// Refusals 3 to 7, the lowest that applies.
     pub fn parse(bytes: &[u8]) -> Result<Record, Refusal> {
-        let fields = Fields::behind(MARK, bytes).ok_or(Refusal::RecordMark)?;
+        Record::parse_in(&Layout::CURRENT, bytes)
+    }
+
+    /// A record of this layout's version or an older one, each with its own largest period.
+    pub fn parse_in(layout: &Layout, bytes: &[u8]) -> Result<Record, Refusal> {
+        let (version, fields) = Fields::behind(MARK, bytes).ok_or(Refusal::RecordMark)?;
+        let own = Layout::of_version(version)
+            .filter(|own| own.version <= layout.version)
+            .ok_or(Refusal::RecordMark)?;
         let (header, behind) = Header::take(fields).ok_or(Refusal::RecordMark)?;
         if header.count > Record::MOST_ITEMS || behind.len() != Record::ITEM * header.count {
             return Err(Refusal::RecordLength);
@@ -30,13 +39,17 @@ impl Record {
         if header.zero != 0 {
             return Err(Refusal::RecordField);
         }
-        header.request.judge(&items)?;
+        header.request.judge(&own, &items)?;
         Ok(Record { request: header.request, items })
     }
 
     pub fn encode(&self) -> Vec<u8> {
+        self.encode_in(&Layout::CURRENT)
+    }
+
+    pub fn encode_in(&self, layout: &Layout) -> Vec<u8> {
         let request = &self.request;
-        let written = Written::behind(MARK)
+        let written = Written::behind(MARK, layout.version)
             .u8(request.kind)
             .u8(request.flags)
             .u8(request.area)
@@ -104,7 +117,7 @@ pub fn write(request: &Request, items: &[u64], record: &mut [u8]) -> Done {
     let judged = if items.len() > Record::MOST_ITEMS {
         Err(Refusal::RecordLength)
     } else {
-        request.judge(items)
+        request.judge(&Layout::CURRENT, items)
     };
     judged
         .map(|()| Record { request: *request, items: items.to_vec() }.encode())

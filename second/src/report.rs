@@ -4,7 +4,8 @@ use std::io::{self, Read, Write};
 
 use crate::answer::Answer;
 use crate::apply::answered;
-use crate::cell::{Cell, Head};
+use crate::cell::Head;
+use crate::layout::Layout;
 use crate::record::Record;
 use crate::refusal::Refusal;
 use crate::table::{build, Table};
@@ -16,7 +17,7 @@ pub fn report(mut input: impl Read, mut output: impl Write) -> io::Result<()> {
         return output.flush();
     };
     while let Some(record) = read_record(&mut input)? {
-        match answered(&mut table, &record, usize::MAX) {
+        match answered(&Layout::CURRENT, &mut table, &record, usize::MAX) {
             Ok(answer) => print(&answer, &mut output)?,
             Err(refusal) => {
                 writeln!(output, "no {}", refusal.number())?;
@@ -39,7 +40,7 @@ fn read_table(input: &mut impl Read) -> io::Result<Option<Vec<u8>>> {
         return Ok(None);
     }
     let heads = read_part(input, count * Head::LENGTH)?;
-    let mut table = vec![0; Table::HEADER + count * Cell::LENGTH];
+    let mut table = vec![0; Layout::CURRENT.table(count)];
     let built = heads.len() == count * Head::LENGTH && build(&heads, &mut table).number == 0;
     Ok(built.then_some(table))
 }

@@ -3,7 +3,8 @@
 use std::ops::RangeInclusive;
 
 use crate::cell::{CellIdentity, Head};
-use crate::place::{Broadcasts, Seconds, LARGEST_PERIOD, SIB_KINDS};
+use crate::layout::Layout;
+use crate::place::{Broadcasts, Seconds, SIB_KINDS};
 use crate::refusal::Refusal;
 
 pub const WRITE_REPLACE: u8 = 1;
@@ -40,8 +41,8 @@ impl Request {
         self.flags & flag != 0
     }
 
-    /// Refusals 5 to 7, the lowest that applies.
-    pub(crate) fn judge(&self, items: &[u64]) -> Result<(), Refusal> {
+    /// Refusals 5 to 7 in a record of this layout's version, the lowest that applies.
+    pub(crate) fn judge(&self, layout: &Layout, items: &[u64]) -> Result<(), Refusal> {
         let listed = !items.is_empty();
         let allowed = self.flags & !self.allowed_flags() == 0
             && self.allowed_areas().contains(&self.area)
@@ -50,7 +51,7 @@ impl Request {
         if !allowed {
             return Err(Refusal::RecordField);
         }
-        if !self.values_fit() || items.iter().any(|item| *item > self.largest_item()) {
+        if !self.values_fit(layout) || items.iter().any(|item| *item > self.largest_item()) {
             return Err(Refusal::RecordValue);
         }
         if self.kind == CANCEL && !self.has(CANCEL_ALL | NOTIFICATION) {
@@ -93,8 +94,9 @@ impl Request {
         }
     }
 
-    fn values_fit(&self) -> bool {
-        self.kind != WRITE_REPLACE || self.period <= LARGEST_PERIOD && SIB_KINDS.contains(&self.sib)
+    fn values_fit(&self, layout: &Layout) -> bool {
+        let fits = self.period <= layout.largest_period && SIB_KINDS.contains(&self.sib);
+        self.kind != WRITE_REPLACE || fits
     }
 
     fn largest_item(&self) -> u64 {

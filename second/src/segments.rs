@@ -3,7 +3,7 @@
 
 use std::iter::once;
 
-use crate::layout::{Fields, Written};
+use crate::fields::{Fields, Written};
 use crate::refusal::{lay, Done, Refusal};
 
 /// The additional segments in their order, each a part of the bytes that they were taken from.

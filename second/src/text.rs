@@ -23,7 +23,7 @@ mod words;
 use std::fmt;
 
 use crate::cell::Head;
-use crate::layout::{strictly_ascending, Written};
+use crate::fields::{strictly_ascending, Written};
 use crate::record::Record;
 use crate::table::Table;
 use words::Words;

@@ -10,22 +10,18 @@ mod given;
 mod pws;
 
 use comparison::broken::broken_units;
+use comparison::broken_conversions::broken_in_conversions;
 use comparison::broken_segments::broken_in_segments;
 use comparison::call::Call;
 use comparison::cases::{Cases, Compared};
 use comparison::compare::{Compare, Difference};
-use comparison::lists::{wrong_lists, wrong_packings};
 use comparison::reorder::{reorder, Reordered};
 use comparison::unit::{Functions, Unit, SOUND};
-use comparison::wrong_tables::WrongTables;
-use given::heads::heads;
 use given::random::{say, seed, Random};
-use given::wrong_records::WrongRecords;
-use second::request::SECOND;
-use second::{apply, build, pack, read, segment, Answer, Cell, Record, Refusal, Request, Table};
 
 const CALLS: u64 = 300_000;
 const CALLS_ON_SEGMENTS: u64 = 60_000;
+const CALLS_ON_CONVERSIONS: u64 = 60_000;
 /// A single fault must show within so many calls.
 const CALLS_TO_FIND_A_FAULT: u64 = 30_000;
 const SEQUENCES: usize = 2_000;
@@ -35,6 +31,9 @@ type Named<'a> = (&'a str, &'a dyn Unit);
 type Run = fn(&mut Cases, u64) -> Compared;
 const DOCUMENT_01: Run = |cases, calls| cases.run(calls);
 const SEGMENTS: Run = |cases, calls| cases.run_segments(calls);
+const CONVERSIONS: Run = |cases, calls| cases.run_conversions(calls);
+/// As many calls as that takes.
+const LARGEST_PERIOD: Run = |cases, _| cases.run_largest_period();
 
 /// How many calls were made, and the first difference if there is one.
 fn compared(run: Run, units: [Named; 2], seed: u64, calls: u64) -> (u64, Compared) {
@@ -59,6 +58,14 @@ fn assert_agrees(name: &str, unit: &dyn Unit) {
 
 fn assert_agrees_on_segments(name: &str, unit: &dyn Unit) {
     assert_agrees_in(&format!("{name}, segments"), SEGMENTS, unit, CALLS_ON_SEGMENTS);
+}
+
+fn assert_agrees_on_conversions(name: &str, unit: &dyn Unit) {
+    assert_agrees_in(&format!("{name}, conversions"), CONVERSIONS, unit, CALLS_ON_CONVERSIONS);
+}
+
+fn assert_agrees_on_the_largest_period(name: &str, unit: &dyn Unit) {
+    assert_agrees_in(&format!("{name}, the largest period"), LARGEST_PERIOD, unit, 0);
 }
 
 fn assert_agrees_in(name: &str, run: Run, unit: &dyn Unit, calls: u64) {
@@ -88,6 +95,16 @@ fn segments_of_second_agree_with_itself() {
 }
 
 #[test]
+fn conversions_of_second_agree_with_itself() {
+    assert_agrees_on_conversions("second", &SOUND);
+}
+
+#[test]
+fn the_largest_period_is_the_same_in_second() {
+    assert_agrees_on_the_largest_period("second", &SOUND);
+}
+
+#[test]
 fn second_keeps_demand_3() {
     assert_keeps_demand_3("second", &SOUND);
 }
@@ -102,6 +119,18 @@ fn the_c_library_agrees_with_second() {
 #[test]
 fn segments_of_the_c_library_agree_with_second() {
     assert_agrees_on_segments("libpws.a", &pws::Pws::default());
+}
+
+#[cfg(pws)]
+#[test]
+fn conversions_of_the_c_library_agree_with_second() {
+    assert_agrees_on_conversions("libpws.a", &pws::Pws::default());
+}
+
+#[cfg(pws)]
+#[test]
+fn the_largest_period_is_the_same_in_the_c_library() {
+    assert_agrees_on_the_largest_period("libpws.a", &pws::Pws::default());
 }
 
 #[cfg(pws)]
@@ -136,8 +165,16 @@ fn each_single_fault_in_segments_is_found() {
     assert_each_is_found("faults, segments", SEGMENTS, broken_in_segments());
 }
 
+#[test]
+fn each_single_fault_in_conversions_is_found() {
+    assert_each_is_found("faults, conversions", CONVERSIONS, broken_in_conversions());
+}
+
 fn broken_unit(fault: &str) -> Functions {
-    let mut units = broken_units().into_iter().chain(broken_in_segments());
+    let mut units = broken_units();
+    units.extend(broken_in_segments());
+    units.extend(broken_in_conversions());
+    let mut units = units.into_iter();
     units.find(|(name, _)| *name == fault).expect("the fault is listed").1
 }
 
@@ -147,31 +184,56 @@ fn is_found_in_both(run: Run, fault: &str, seed: u64) -> bool {
     compared(run, [(fault, &unit), (fault, &unit)], seed, CALLS_TO_FIND_A_FAULT).1.is_err()
 }
 
+/// Faults that a run finds though both units have them: they break a promise of every call, or what
+/// is converted does not run as what it was.
+const FOUND_IN_BOTH: [(Run, &[&str]); 3] = [
+    (
+        DOCUMENT_01,
+        &[
+            "an unmatched list is no list",
+            "a code matches in every PLMN",
+            "the byte behind the answer is zeroed",
+            "a refusal clears the answer",
+            "a full cell fails the request",
+            "a refused reading has its fields",
+            "the record's rest is cleared",
+        ],
+    ),
+    (
+        SEGMENTS,
+        &[
+            "a length is little-endian",
+            "the neighbour is read",
+            "a part lies in the other buffer",
+            "the first one is behind a length",
+            "a refused part has a place",
+            "a packed length is little-endian",
+            "the byte behind the list is zeroed",
+            "a refusal clears the list",
+        ],
+    ),
+    (
+        CONVERSIONS,
+        &[
+            "a converted text has sent nothing",
+            "a converted wait is a second less",
+            "a version 2 table is converted too",
+            "the old table has the new limit",
+            "the byte behind the converted table is zeroed",
+            "a refusal clears the table",
+            "a broadcast waits a second too few",
+            "places close up in the wrong order",
+        ],
+    ),
+];
+
 #[test]
 fn a_broken_promise_is_found_where_both_units_break_it() {
     let seed = seed("promises");
-    for fault in [
-        "an unmatched list is no list",
-        "a code matches in every PLMN",
-        "the byte behind the answer is zeroed",
-        "a refusal clears the answer",
-        "a full cell fails the request",
-        "a refused reading has its fields",
-        "the record's rest is cleared",
-    ] {
-        assert!(is_found_in_both(DOCUMENT_01, fault, seed), "{fault}: not found");
-    }
-    for fault in [
-        "a length is little-endian",
-        "the neighbour is read",
-        "a part lies in the other buffer",
-        "the first one is behind a length",
-        "a refused part has a place",
-        "a packed length is little-endian",
-        "the byte behind the list is zeroed",
-        "a refusal clears the list",
-    ] {
-        assert!(is_found_in_both(SEGMENTS, fault, seed), "{fault}: not found");
+    for (run, faults) in FOUND_IN_BOTH {
+        for fault in faults {
+            assert!(is_found_in_both(run, fault, seed), "{fault}: not found");
+        }
     }
 }
 
@@ -180,62 +242,6 @@ fn faults_of_reach_break_demand_3() {
     let seed = seed("faults, demand 3");
     for fault in ["an unmatched list is no list", "a code matches in every PLMN"] {
         assert!(keeps_demand_3(&broken_unit(fault), seed).is_err(), "{fault}: not found");
-    }
-}
-
-#[test]
-fn each_named_breakage_has_its_refusal() {
-    let mut random = Random::new(seed("breakages"));
-    let second = Record { request: Request { kind: SECOND, ..Request::default() }, items: vec![] };
-    for _ in 0..20 {
-        let heads = heads(&mut random, 3);
-        let legal = Table { cells: heads.iter().cloned().map(Cell::empty).collect() }.encode();
-        for wrong in WrongRecords::all(&mut random, &heads) {
-            assert_eq!(read(&wrong.bytes).number, wrong.number, "{}", wrong.name);
-            let mut answer = vec![0; Answer::room(SECOND, 3)];
-            let done = apply(&mut legal.clone(), &wrong.bytes, &mut answer);
-            assert_eq!(done.number, wrong.number, "{}", wrong.name);
-        }
-        for mut wrong in WrongTables::all(&mut random) {
-            let mut answer = vec![0; Answer::room(SECOND, 513)];
-            let done = apply(&mut wrong.bytes, &second.encode(), &mut answer);
-            assert_eq!(done.number, wrong.number, "{}", wrong.name);
-        }
-        for wrong in WrongTables::all_heads(&mut random) {
-            let done = build(&wrong.bytes, &mut vec![0; Table::HEADER + Cell::LENGTH * 1025]);
-            assert_eq!(done.number, wrong.number, "{}", wrong.name);
-        }
-    }
-}
-
-#[test]
-fn each_named_breakage_of_a_list_has_its_refusal() {
-    let mut random = Random::new(seed("lists"));
-    for wrong in wrong_lists(&mut random) {
-        for k in [0, 1, 63, 64, usize::MAX] {
-            let number = segment(b"first", &wrong.bytes, k).map_or_else(Refusal::number, |_| 0);
-            assert_eq!(number, wrong.number, "{}, k {k}", wrong.name);
-        }
-    }
-    for wrong in wrong_packings(&mut random) {
-        let done = pack(&wrong.bytes, &wrong.lengths, &mut vec![0; wrong.room]);
-        assert_eq!(done.number, wrong.number, "{}", wrong.name);
-    }
-}
-
-#[test]
-fn a_call_reads_back_from_its_text() {
-    let request = Request { kind: 1, content: 7, sib: 8, ..Request::default() };
-    for call in [
-        Call::Build { heads: vec![1, 2], table: vec![] },
-        Call::Apply { table: vec![0xff], record: vec![], answer: vec![0, 1] },
-        Call::Read { record: vec![0x50] },
-        Call::Write { request, items: vec![1, u64::MAX], record: vec![] },
-        Call::Item { record: vec![1; 40], k: usize::MAX },
-        Call::Segment { first: vec![], more: vec![0, 1, 7], k: usize::MAX },
-        Call::Pack { bytes: vec![7], lengths: vec![1, u64::MAX], list: vec![] },
-    ] {
-        assert_eq!(Call::parse(&call.to_string()), Some(call));
     }
 }
 

@@ -4,8 +4,8 @@ mod one_cell;
 
 use one_cell::{cancel, head, row, second, start, Unit};
 use second::request::*;
-use second::{read, write, Broadcasts, Cell, Place, Record, Request, Seconds, Table};
-use second::{EARTHQUAKE_PRIMARY, LARGEST_PERIOD};
+use second::EARTHQUAKE_PRIMARY;
+use second::{read, write, Broadcasts, Cell, Layout, Place, Record, Request, Seconds, Table};
 
 fn primary(serial: u16, period: u32, requested: u16, flags: u8) -> Request {
     Request { sib: EARTHQUAKE_PRIMARY, ..start(serial, period, requested, flags) }
@@ -75,7 +75,7 @@ fn a_primary_with_period_0_and_requested_0_starts() {
 
 #[test]
 fn a_primary_starts_alike_on_all_terms() {
-    for period in [0, 1, 2, 4095] {
+    for period in [0, 1, 2, 4095, 4096, 131_071] {
         for requested in [0, 1, 2, 65_535] {
             assert_starts_without_end(period, requested, 0);
             assert_starts_without_end(period, requested, CONCURRENT);
@@ -85,7 +85,7 @@ fn a_primary_starts_alike_on_all_terms() {
 
 #[test]
 fn a_primary_with_a_larger_period_is_refused() {
-    let larger = primary(16, LARGEST_PERIOD.0 + 1, 2, 0);
+    let larger = primary(16, Layout::CURRENT.largest_period.0 + 1, 2, 0);
     assert_eq!(Unit::empty().run(larger), Err(6));
     assert_eq!(read(&Record { request: larger, items: vec![] }.encode()).number, 6);
     assert_eq!(write(&larger, &[], &mut [0; Record::HEADER]).number, 6);
@@ -186,7 +186,7 @@ fn the_other_kinds_keep_the_zero_rules_and_their_terms() {
 
 #[test]
 fn a_written_primary_reads_back_with_its_own_period_and_count() {
-    for (period, requested) in [(5, 2), (0, 0), (0, 2), (4095, 65_535)] {
+    for (period, requested) in [(5, 2), (0, 0), (0, 2), (4095, 65_535), (131_071, 1)] {
         let request = primary(16, period, requested, 0);
         let mut record = [0xa5; Record::HEADER];
         assert_eq!(write(&request, &[], &mut record).number, 0);

@@ -11,7 +11,7 @@ use std::time::Duration;
 
 use given::heads::{count, heads};
 use given::random::{say, seed, Random};
-use given::records::{in_area, record};
+use given::records::{encoded, in_area, record};
 use given::wrong_records::WrongRecords;
 use second::request::{IN_CELLS, WRITE_REPLACE};
 use second::{Head, Record};
@@ -59,14 +59,20 @@ fn table_part(heads: &[Head]) -> Vec<u8> {
     [&count[..], &heads.iter().flat_map(Head::encode).collect::<Vec<u8>>()].concat()
 }
 
-/// An input of accepted records, the last of which has items.
-fn accepted(random: &mut Random) -> (Vec<u8>, Vec<Record>) {
+/// The table part of an input and its accepted records, the last of which has items.
+fn accepted(random: &mut Random) -> (Vec<u8>, Vec<Vec<u8>>) {
     let count = count(random);
     let heads = heads(random, count);
     let length = if count > 64 { 5 } else { 5 + random.below(60) };
     let mut records: Vec<Record> = (0..length).map(|_| record(random, &heads)).collect();
     records.push(in_area(random, &heads, WRITE_REPLACE, IN_CELLS));
-    (table_part(&heads), records)
+    (table_part(&heads), records.iter().map(|record| encoded(random, record)).collect())
+}
+
+/// The bytes of one accepted record.
+fn any_record(random: &mut Random, heads: &[Head]) -> Vec<u8> {
+    let record = record(random, heads);
+    encoded(random, &record)
 }
 
 /// Names of places and the lengths that cut an input there: in N, in the heads, behind them, and
@@ -100,9 +106,8 @@ fn inputs(random: &mut Random) -> Vec<(String, Vec<u8>)> {
     let mut inputs = Vec::new();
     for _ in 0..INPUTS {
         let (table, records) = accepted(random);
-        let encoded: Vec<Vec<u8>> = records.iter().map(Record::encode).collect();
-        let whole = [&table[..], &encoded.concat()].concat();
-        let last = whole.len() - encoded[encoded.len() - 1].len();
+        let whole = [&table[..], &records.concat()].concat();
+        let last = whole.len() - records[records.len() - 1].len();
         for (name, length) in cuts(random, table.len(), last, whole.len()) {
             inputs.push((format!("cut {name}"), whole[..length].to_vec()));
         }
@@ -131,7 +136,7 @@ fn refused_inputs(random: &mut Random) -> Vec<(String, Vec<u8>)> {
         inputs.push((format!("N {count} with three heads"), table));
     }
     for wrong in WrongRecords::all(random, &heads) {
-        let (before, behind) = (record(random, &heads).encode(), record(random, &heads).encode());
+        let [before, behind] = [0; 2].map(|_| any_record(random, &heads));
         let input = [table_part(&heads), before, wrong.bytes, behind].concat();
         inputs.push((format!("{} (alone: {})", wrong.name, wrong.number), input));
     }
@@ -143,7 +148,7 @@ fn long_input(random: &mut Random) -> Vec<u8> {
     let heads = heads(random, 8);
     let mut input = table_part(&heads);
     while input.len() < 1 << 20 {
-        input.extend(record(random, &heads).encode());
+        input.extend(any_record(random, &heads));
     }
     input
 }
@@ -163,9 +168,8 @@ fn a_cut_prints_what_document_01_says() {
     let mut random = Random::new(seed("report, cuts"));
     for _ in 0..INPUTS {
         let (table, records) = accepted(&mut random);
-        let encoded: Vec<Vec<u8>> = records.iter().map(Record::encode).collect();
-        let whole = [&table[..], &encoded.concat()].concat();
-        let last = whole.len() - encoded[encoded.len() - 1].len();
+        let whole = [&table[..], &records.concat()].concat();
+        let last = whole.len() - records[records.len() - 1].len();
         let before = reported(&whole[..last]);
         for (name, length) in cuts(&mut random, table.len(), last, whole.len()) {
             let expected = match length {
@@ -184,8 +188,7 @@ fn a_cut_prints_what_document_01_says() {
 fn pieces_of_input_do_not_matter() {
     let mut random = Random::new(seed("report, pieces"));
     let (table, records) = accepted(&mut random);
-    let records: Vec<u8> = records.iter().flat_map(Record::encode).collect();
-    let input = [&table[..], &records].concat();
+    let input = [&table[..], &records.concat()].concat();
     let input = &input[..input.len().min(4000)];
     let pause = Duration::from_micros(20);
     for program in [OWN.to_string()].into_iter().chain(env::var("PWS_REPORT")) {

@@ -1,4 +1,5 @@
-//! Document 01's sample situations: P1 to P13 and the rows without a mark.
+//! Document 01's sample situations: P1 to P13, P2 as document 02 moves it, and the rows without a
+//! mark.
 
 mod one_cell;
 
@@ -7,15 +8,15 @@ use second::request::*;
 use second::{item, Broadcasts, Place, Record, Request};
 
 #[test]
-fn p1_the_largest_period_starts() {
+fn p1_period_4095_starts() {
     let mut unit = Unit::empty();
     assert_eq!(unit.run(start(16, 4095, 2, 0)), Ok(vec![row(0, 0)]));
     assert_eq!(unit.places().len(), 1);
 }
 
 #[test]
-fn p2_a_larger_period_is_refused() {
-    assert_eq!(Unit::empty().run(start(16, 4096, 2, 0)), Err(6));
+fn p2_a_period_above_the_largest_is_refused() {
+    assert_eq!(Unit::empty().run(start(16, 131_072, 2, 0)), Err(6));
 }
 
 #[test]

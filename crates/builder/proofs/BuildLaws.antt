@@ -12,8 +12,9 @@ use Rattle.octets.specs.Numbers.{be, toBe}
 use Rattle.octets.specs.Fields.{bytesOf}
 use Rattle.octets.proofs.RunsLaws.{gets-eq, gets-run, length-gets, sets-run, sets-front}
 use Rattle.octets.proofs.NumbersLaws.{length-toBe, toBe-gets, toBe-join}
-use Rattle.rules.specs.Layout.{placesPerCell, mostCells, headerSize, headSize, cellSize, tableMark, tableVersion}
+use Rattle.rules.specs.Layout.{current, placesPerCell, mostCells, headerSize, headSize, cellSize, tableMark, versionNumber}
 use Rattle.rules.specs.Table.{headerBytes}
+use Rattle.table.proofs.PiecesLaws.{piece-fits}
 use Rattle.builder.specs.Build.{emptyRun}
 use Rattle.octets.proofs.PiecesLaws.{pieces-more, pieces-none}
 
@@ -24,23 +25,23 @@ behind a b c d e = simp (append-assoc, append-nil)
 
 -- two numbers of eight bytes
 header-in-two : (n : ℕ) → n ≤ mostCells
-    → headerBytes n ≡ toBe 8 (((tableMark * 65536 + tableVersion) * 65536 + n) * 256 + placesPerCell) ++ toBe 8 0
+    → headerBytes current n ≡ toBe 8 (((tableMark * 65536 + versionNumber current) * 65536 + n) * 256 + placesPerCell) ++ toBe 8 0
 unfolding headerBytes bytesOf
 header-in-two n h =
-    let m = tableMark * 65536 + tableVersion in
-    behind (toBe 3 tableMark) (toBe 2 tableVersion) (toBe 2 n) (toBe 1 placesPerCell) (toBe 8 0)
+    let m = tableMark * 65536 + versionNumber current in
+    behind (toBe 3 tableMark) (toBe 2 (versionNumber current)) (toBe 2 n) (toBe 1 placesPerCell) (toBe 8 0)
     ∙ rw (
-      toBe-join 3 2 tableMark tableVersion (omega arith) (omega arith),
+      toBe-join 3 2 tableMark (versionNumber current) (omega arith) (omega arith),
       toBe-join 5 2 m n (omega arith) (omega arith),
       toBe-join 7 1 (m * 65536 + n) placesPerCell (omega arith) (omega arith),
     )
 
 pub header-stored : (n : ℕ) → n ≤ mostCells → (t : List ℕ) {a b : List ℕ}
-    → a ≡ sets t 0 (toBe 8 (((tableMark * 65536 + tableVersion) * 65536 + n) * 256 + placesPerCell)) → b ≡ sets a 8 (toBe 8 0)
-    → b ≡ sets t 0 (headerBytes n)
+    → a ≡ sets t 0 (toBe 8 (((tableMark * 65536 + versionNumber current) * 65536 + n) * 256 + placesPerCell)) → b ≡ sets a 8 (toBe 8 0)
+    → b ≡ sets t 0 (headerBytes current n)
 header-stored n h t p q =
     rw (q, p, header-in-two n h)
-    (sets-run (toBe 8 (((tableMark * 65536 + tableVersion) * 65536 + n) * 256 + placesPerCell)) (toBe 8 0) t 0 8 (rw length-toBe refl))
+    (sets-run (toBe 8 (((tableMark * 65536 + versionNumber current) * 65536 + n) * 256 + placesPerCell)) (toBe 8 0) t 0 8 (rw length-toBe refl))
 
 -- ---- a cell
 
@@ -62,63 +63,71 @@ front-stored w l front a z m f p q =
     let rest : length (drop w a) ≡ length l - w = rw (length-drop, long) in
     rw (take-front, q, long, take-all (length l - w) (drop w a) (omega arith), drop-of-length-le (drop w a) {i = length l - w} (omega arith), rest, append-nil)
 
-pub cell-stored : (cell head a z : List ℕ) → length cell ≡ cellSize → length head ≡ headSize → a ≡ sets cell 0 head
+pub cell-stored : (cell head a z : List ℕ) → length cell ≡ cellSize current → length head ≡ headSize → a ≡ sets cell 0 head
     → z ≡ replicate (length (midOf headSize (length a - headSize) a)) 0 → putMid headSize (length a - headSize) a z ≡ emptyRun head
 unfolding emptyRun
 cell-stored cell head a z n m p q = front-stored headSize cell head a z m (omega arith) p q ∙ rw n
 
 -- ---- the loop: what is stored is, with what is left, the whole
 
-pub record CellsLeft (t₀ heads : List ℕ) (count : ℕ) (t : List ℕ) (from at left : ℕ) : Type 0 where
-  pub source : from + headSize * left ≤ length heads
-  pub room : at + cellSize * left ≤ length t
-  pub long : length t ≡ length t₀
-  pub rest : sets t₀ headerSize (flatMap emptyRun (pieces headSize count heads)) ≡ sets t at (flatMap emptyRun (pieces headSize left (drop from heads)))
-
-pub cells-start : (t₀ heads : List ℕ) (count : ℕ) → headSize * count ≤ length heads → headerSize + cellSize * count ≤ length t₀
-    → CellsLeft t₀ heads count t₀ 0 headerSize count
-cells-start t₀ heads count s r = record { source = omega arith; room = r; long = refl; rest = refl }
-
-pub cells-end : {t₀ heads : List ℕ} {count : ℕ} {t : List ℕ} {from at left : ℕ} → CellsLeft t₀ heads count t from at left → left ≤ 0
-    → t ≡ sets t₀ headerSize (flatMap emptyRun (pieces headSize count heads))
-unfolding flatMap
-cells-end {heads} {from} {left} p h = sym (p .rest ∙ rw (pieces-none headSize left (drop from heads) h))
-
-length-emptyRun : (head : List ℕ) → length head ≡ headSize → length (emptyRun head) ≡ cellSize
+pub length-emptyRun : (head : List ℕ) → length head ≡ headSize → length (emptyRun head) ≡ cellSize current
 unfolding emptyRun
 length-emptyRun head e = rw (length-append, e)
 
-module _ {t₀ heads : List ℕ} {count : ℕ} {t : List ℕ} {from at left : ℕ} (p : CellsLeft t₀ heads count t from at left) (h : 0 < left)
-    (new : List ℕ) (en : new ≡ emptyRun (take (from + headSize - from) (drop from heads))) where
-  -- the head that was lent
-  abbrev head : List ℕ
-  head = take headSize (drop from heads)
+-- cells made one by one, each by f from w bytes of a source
+module _ (f : List ℕ → List ℕ) (w : ℕ) where
+  pub record CellsLeft (t₀ source : List ℕ) (count : ℕ) (t : List ℕ) (from at left : ℕ) : Type 0 where
+    pub given : from + w * left ≤ length source
+    pub room : at + cellSize current * left ≤ length t
+    pub long : length t ≡ length t₀
+    pub rest : sets t₀ headerSize (flatMap f (pieces w count source)) ≡ sets t at (flatMap f (pieces w left (drop from source)))
 
-  lent : new ≡ emptyRun head
-  lent = let k : from + headSize - from ≡ headSize = omega arith in en ∙ rw k
+  pub cells-start : (t₀ source : List ℕ) (count : ℕ) → w * count ≤ length source → headerSize + cellSize current * count ≤ length t₀
+      → CellsLeft t₀ source count t₀ 0 headerSize count
+  cells-start t₀ source count s r = record { given = omega arith; room = r; long = refl; rest = refl }
 
-  sized : length new ≡ cellSize
-  sized =
-      let s = p .source in
-      let d : length (drop from heads) ≡ length heads - from = length-drop from heads in
-      rw lent (length-emptyRun head (length-take-le headSize (drop from heads) (omega arith)))
-
-  stored : putMid at (at + cellSize - at) t new ≡ sets t at new
-  stored =
-      let r = p .room in
-      let k : at + cellSize - at ≡ cellSize = omega arith in
-      rw (k, sets-eq new t at (omega (arith, sized)), sized, drop-drop cellSize at t, append-assoc)
-
-  pub cells-on : CellsLeft t₀ heads count (putMid at (at + cellSize - at) t new) (from + headSize) (at + cellSize) (left - 1)
+  pub cells-end : {t₀ source : List ℕ} {count : ℕ} {t : List ℕ} {from at left : ℕ} → CellsLeft t₀ source count t from at left → left ≤ 0
+      → t ≡ sets t₀ headerSize (flatMap f (pieces w count source))
   unfolding flatMap
-  cells-on =
-      let s = p .source in
-      let r = p .room in
-      let l : length (sets t at new) ≡ length t = length-sets t at new in
-      rw stored
-      (record {
-        source = omega arith;
-        room = omega arith;
-        long = l ∙ p .long;
-        rest = p .rest ∙ rw (pieces-more headSize left from heads h, ← lent, sets-run new _ t at (at + cellSize) (rw sized));
-      })
+  cells-end {source} {from} {left} p h = sym (p .rest ∙ rw (pieces-none w left (drop from source) h))
+
+  module _ (sized : (b : List ℕ) → length b ≡ w → length (f b) ≡ cellSize current)
+      {t₀ source : List ℕ} {count : ℕ} {t : List ℕ} {from at left : ℕ} (p : CellsLeft t₀ source count t from at left) (h : 0 < left)
+      (new : List ℕ) (en : new ≡ f (take (from + w - from) (drop from source))) where
+    -- what of the source was lent
+    abbrev lent : List ℕ
+    lent = take w (drop from source)
+
+    made : new ≡ f lent
+    made = let k : from + w - from ≡ w = omega arith in en ∙ rw k
+
+    -- one more lies in the source
+    ahead : (from + w ≤ length source) × (from + w + w * (left - 1) ≤ length source)
+    ahead =
+        let g = p .given in
+        let k = piece-fits w from left refl h in
+        (omega (arith, k .0), omega (arith, k .1))
+
+    new-sized : length new ≡ cellSize current
+    new-sized =
+        let d : length (drop from source) ≡ length source - from = length-drop from source in
+        rw made (sized lent (length-take-le w (drop from source) (omega (arith, ahead .0))))
+
+    stored : putMid at (at + cellSize current - at) t new ≡ sets t at new
+    stored =
+        let r = p .room in
+        let k : at + cellSize current - at ≡ cellSize current = omega arith in
+        rw (k, sets-eq new t at (omega (arith, new-sized)), new-sized, drop-drop (cellSize current) at t, append-assoc)
+
+    pub cells-on : CellsLeft t₀ source count (putMid at (at + cellSize current - at) t new) (from + w) (at + cellSize current) (left - 1)
+    unfolding flatMap
+    cells-on =
+        let r = p .room in
+        let l : length (sets t at new) ≡ length t = length-sets t at new in
+        rw stored
+        (record {
+          given = ahead .1;
+          room = omega arith;
+          long = l ∙ p .long;
+          rest = p .rest ∙ rw (pieces-more w left from source h, ← made, sets-run new _ t at (at + cellSize current) (rw new-sized));
+        })

@@ -11,7 +11,7 @@ use lib.Seq.{sets}
 use Rattle.octets.specs.Runs.{Bytes}
 use Rattle.octets.specs.Fields.{filled}
 use Rattle.octets.proofs.RunsLaws.{length-pieces, sets-run}
-use Rattle.rules.specs.Layout.{headerSize, headSize, cellSize, mostCells}
+use Rattle.rules.specs.Layout.{current, headerSize, headSize, cellSize, mostCells}
 use Rattle.rules.specs.Table.{Cell, legalHead, headerBytes, placesBytes, cellBytes, tableBytes}
 use Rattle.rules.specs.Refusals.{headCount, headRuns, legalHeads, buildVerdict}
 use Rattle.rules.specs.Applied.{filledBy, fill, emptyCell, built}
@@ -25,7 +25,7 @@ use Rattle.builder.specs.Build.{emptyRun}
 
 -- ---- the bytes of empty cells
 
-empty-run : (b : List ℕ) → Bytes b → length b ≡ headSize → legalHead b ≡ true → cellBytes (emptyCell b) ≡ emptyRun b
+empty-run : (b : List ℕ) → Bytes b → length b ≡ headSize → legalHead b ≡ true → cellBytes current (emptyCell b) ≡ emptyRun b
 unfolding cellBytes emptyCell placesBytes filled flatMap emptyRun
 empty-run b h n l = rw (head-back b h n l)
 
@@ -37,19 +37,19 @@ module _ (heads : List ℕ) (bytes : Bytes heads) (legal : legalHeads heads ≡ 
   count-cells : length cells ≡ headCount heads
   count-cells = length-map (headRuns heads) emptyCell ∙ length-pieces headSize (headCount heads) heads
 
-  cells-bytes : flatMap cellBytes cells ≡ flatMap emptyRun (headRuns heads)
+  cells-bytes : flatMap (cellBytes current) cells ≡ flatMap emptyRun (headRuns heads)
   cells-bytes =
-      flatMap-map cellBytes emptyCell (headRuns heads)
-      ∙ flatMap-all (λ b. cellBytes (emptyCell b)) emptyRun
+      flatMap-map (cellBytes current) emptyCell (headRuns heads)
+      ∙ flatMap-all (λ b. cellBytes current (emptyCell b)) emptyRun
       (all-imply (λ b h. empty-run b (h .0 .0) (h .0 .1) (h .1))
       (all-both (all-pieces headSize (headCount heads) heads bytes (omega arith)) (all-every legalHead (headRuns heads) (legal-heads heads legal .each))))
 
   -- a the buffer with the header, b that with the cells
-  stored : (t : List ℕ) {a b : List ℕ} → a ≡ sets t 0 (headerBytes (headCount heads)) → b ≡ sets a headerSize (flatMap emptyRun (headRuns heads)) → b ≡ sets t 0 (tableBytes cells)
+  stored : (t : List ℕ) {a b : List ℕ} → a ≡ sets t 0 (headerBytes current (headCount heads)) → b ≡ sets a headerSize (flatMap emptyRun (headRuns heads)) → b ≡ sets t 0 (tableBytes current cells)
   unfolding tableBytes
   stored t p q =
       rw (q, p, count-cells, cells-bytes)
-      (sets-run (headerBytes (headCount heads)) (flatMap emptyRun (headRuns heads)) t 0 headerSize (rw length-headerBytes))
+      (sets-run (headerBytes current (headCount heads)) (flatMap emptyRun (headRuns heads)) t 0 headerSize (rw (length-headerBytes current)))
 
 -- ---- the answers
 
@@ -70,13 +70,13 @@ module _ (heads t : List ℕ) (l : Bool) (el : l ≡ legalHeads heads) where
     legal : legalHeads heads ≡ true
     legal = found heads l el right
 
-    pub buffer-short : length t < headerSize + cellSize * headCount heads → filledBy (Nothing ShortBuffer) t ≡ built heads t
+    pub buffer-short : length t < headerSize + cellSize current * headCount heads → filledBy (Nothing ShortBuffer) t ≡ built heads t
     unfolding built buildVerdict fill
-    buffer-short h = rw (legal, lt-leb (headerSize + cellSize * headCount heads) (length t) h)
+    buffer-short h = rw (legal, lt-leb (headerSize + cellSize current * headCount heads) (length t) h)
 
-    pub table-built : Bytes heads → headerSize + cellSize * headCount heads ≤ length t → {a b : List ℕ} → a ≡ sets t 0 (headerBytes (headCount heads))
-        → b ≡ sets a headerSize (flatMap emptyRun (headRuns heads)) → filledBy (Written (headerSize + cellSize * headCount heads)) b ≡ built heads t
+    pub table-built : Bytes heads → headerSize + cellSize current * headCount heads ≤ length t → {a b : List ℕ} → a ≡ sets t 0 (headerBytes current (headCount heads))
+        → b ≡ sets a headerSize (flatMap emptyRun (headRuns heads)) → filledBy (Written (headerSize + cellSize current * headCount heads)) b ≡ built heads t
     unfolding built buildVerdict fill
     table-built bytes room p q =
-        let long : length (tableBytes (cells heads bytes legal)) ≡ headerSize + cellSize * headCount heads = length-tableBytes (cells heads bytes legal) ∙ rw (count-cells heads bytes legal) in
-        rw (legal, le-leb (headerSize + cellSize * headCount heads) (length t) room, long, stored heads bytes legal t p q)
+        let long : length (tableBytes current (cells heads bytes legal)) ≡ headerSize + cellSize current * headCount heads = length-tableBytes current (cells heads bytes legal) ∙ rw (count-cells heads bytes legal) in
+        rw (legal, le-leb (headerSize + cellSize current * headCount heads) (length t) room, long, stored heads bytes legal t p q)

@@ -5,7 +5,7 @@ ghost use Prim.Native.Nat.{_+_, _*_, _≤_};
 ghost use lib.ListN.{length, replicate};
 ghost use lib.Seq.{sets};
 ghost use Rattle.octets.specs.Runs.{pieces};
-ghost use Rattle.rules.specs.Layout.{headerSize, headSize, cellSize, mostCells};
+ghost use Rattle.rules.specs.Layout.{current, headerSize, headSize, cellSize, mostCells};
 ghost use Rattle.rules.specs.Table.{legalHead, headerBytes};
 ghost use Rattle.rules.specs.Refusals.{legalHeads};
 ghost use Rattle.rules.specs.Applied.{filledBy, built};
@@ -81,10 +81,10 @@ fn heads_in_order(heads: &[u8], count: usize) -> bool
     true
 }
 
-// The eight zeros, and before them mark, version, N and the places of a cell as one number.
-fn put_header(table: &mut [u8], count: usize)
+// The converter asks this too. The eight zeros, and before them mark, version, N and the places of a cell as one number.
+pub fn put_header(table: &mut [u8], count: usize)
     requires { ⌜ (headerSize ≤ length (now table)) × (count ≤ mostCells) ⌝ }
-    ensures { λ _. ⌜ now (table .exit) ≡ sets (now (table .entry)) 0 (headerBytes count) ⌝ }
+    ensures { λ _. ⌜ now (table .exit) ≡ sets (now (table .entry)) 0 (headerBytes current count) ⌝ }
 {
     let marked = (TABLE_MARK as u64) * 65536 + (TABLE_VERSION as u64);
     put64(
@@ -96,7 +96,7 @@ fn put_header(table: &mut [u8], count: usize)
 }
 
 fn put_cells(table: &mut [u8], heads: &[u8], count: usize)
-    requires { ⌜ (headSize * count ≤ length (now heads)) × (headerSize + cellSize * count ≤ length (now table)) ⌝ }
+    requires { ⌜ (headSize * count ≤ length (now heads)) × (headerSize + cellSize current * count ≤ length (now table)) ⌝ }
     ensures { λ _. ⌜ now (table .exit) ≡ sets (now (table .entry)) headerSize (flatMap emptyRun (pieces headSize count (now (heads .entry)))) ⌝ }
 {
     let mut from: usize = 0;
@@ -113,15 +113,15 @@ fn put_cells(table: &mut [u8], heads: &[u8], count: usize)
 }
 
 fn put_cell(cell: &mut [u8], head: &[u8])
-    requires { ⌜ (length (now cell) ≡ cellSize) × (length (now head) ≡ headSize) ⌝ }
+    requires { ⌜ (length (now cell) ≡ cellSize current) × (length (now head) ≡ headSize) ⌝ }
     ensures { λ _. ⌜ now (cell .exit) ≡ emptyRun (now (head .entry)) ⌝ }
 {
     put_head(cell, head);
     clear(&mut cell[HEAD..]);
 }
 
-// The head at the start of the cell, eight bytes at a time.
-fn put_head(cell: &mut [u8], head: &[u8])
+// The head at the start of the cell, eight bytes at a time. The converter asks this too.
+pub fn put_head(cell: &mut [u8], head: &[u8])
     requires { ⌜ (length (now head) ≡ headSize) × (headSize ≤ length (now cell)) ⌝ }
     ensures { λ _. ⌜ now (cell .exit) ≡ sets (now (cell .entry)) 0 (now (head .entry)) ⌝ }
 {

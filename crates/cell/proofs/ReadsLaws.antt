@@ -1,4 +1,4 @@
--- What is read of a cell: a field of a live place, two fields side by side, the mark of a live place, the fields of the head.
+-- What is read of a cell: a field of a live place, its text as one number, the mark of a live place, the fields of the head.
 -- The bytes of place k are those of live place k, and the layout says where a field stands in them.
 use mathlib.Core.Path.{_≡_, refl, sym, ap, _∙_}
 use mathlib.Core.Bool.{Bool, true, false, not, _||_}
@@ -19,7 +19,7 @@ use Rattle.octets.proofs.FieldsLaws.{number-at, numbers-take}
 use Rattle.octets.proofs.PartsLaws.{field-within}
 use Rattle.rules.specs.Lists.{any, oneOf}
 use Rattle.rules.specs.Layout as layout
-use Rattle.rules.specs.Layout.{headFields, placeFields, headSize, placeSize, placesPerCell, cellSize}
+use Rattle.rules.specs.Layout.{current, headFields, placeFields, headSize, placeSize, placesPerCell, cellSize}
 use Rattle.rules.specs.Table.{areasUsed, headOf, allAreas, placeNumbers, placeBytes}
 use Rattle.rules.specs.declared.Place.{Place}
 use Rattle.rules.proofs.FitLaws.{fits-Fit, numbers-written}
@@ -35,92 +35,80 @@ module _ (l : List ℕ) (i j : ℕ) (bytes : Bytes l) (e : j ≡ i + 2) where
   low : be (gets l j 2) < 65536
   low = rw length-gets at (be-lt (gets l j 2) (bytes-gets 2 l j bytes))
 
-  pub upper-half : be (gets l i 4) / 65536 ≡ be (gets l i 2)
+  upper-half : be (gets l i 4) / 65536 ≡ be (gets l i 2)
   upper-half = let h = low in omega (arith, be-run 2 2 l i j e)
 
-  pub lower-half : be (gets l i 4) % 65536 ≡ be (gets l j 2)
+  lower-half : be (gets l i 4) % 65536 ≡ be (gets l j 2)
   lower-half = let h = low in omega (arith, be-run 2 2 l i j e)
 
 -- ---- the fields of a live place
 
 module _ (c : List ℕ) (bytes : Bytes c) (k : ℕ) (at : LiveAt c k) where
-  pub field-read : (f : ℕ) → f < length placeFields → be (gets c (headSize + placeSize * k + offset placeFields f) (getD placeFields f 0)) ≡ getD (placeNumbers (placeAt c k)) f 0
+  pub field-read : (f : ℕ) → f < length (placeFields current) → be (gets c (headSize + placeSize current * k + offset (placeFields current) f) (getD (placeFields current) f 0)) ≡ getD (placeNumbers (placeAt c k)) f 0
   unfolding size placeBytes
   field-read f h =
       let p : Place = placeAt c k in
-      let within : offset placeFields f + getD placeFields f 0 ≤ placeSize = field-within placeFields f h in
-      let n : length (placeBytes p) ≡ placeSize = length-placeBytes p in
-      let w : numbers placeFields (placeBytes p) ≡ placeNumbers p = numbers-written placeFields (placeNumbers p) (fits-Fit placeFields (placeNumbers p) (fit-at c bytes k at)) in
-      ap be (live-gets c k at (offset placeFields f) (getD placeFields f 0) within)
-      ∙ sym (number-at placeFields (placeBytes p) f h (omega arith))
+      let within : offset (placeFields current) f + getD (placeFields current) f 0 ≤ placeSize current = field-within (placeFields current) f h in
+      let n : length (placeBytes current p) ≡ placeSize current = length-placeBytes current p in
+      let w : numbers (placeFields current) (placeBytes current p) ≡ placeNumbers p = numbers-written (placeFields current) (placeNumbers p) (fits-Fit (placeFields current) (placeNumbers p) (fit-at c bytes k at)) in
+      ap be (live-gets c k at (offset (placeFields current) f) (getD (placeFields current) f 0) within)
+      ∙ sym (number-at (placeFields current) (placeBytes current p) f h (omega arith))
       ∙ ap (λ (vs : List ℕ). getD vs f 0) w
 
-  identifier-read : be (gets c (headSize + placeSize * k) 2) ≡ placeAt c k .identifier
+  identifier-read : be (gets c (headSize + placeSize current * k) 2) ≡ placeAt c k .identifier
   unfolding offset placeNumbers
   identifier-read = rw add-zero at (field-read 0 (omega arith))
 
-  serial-read : be (gets c (headSize + placeSize * k + 2) 2) ≡ placeAt c k .serial
+  serial-read : be (gets c (headSize + placeSize current * k + 2) 2) ≡ placeAt c k .serial
   unfolding offset placeNumbers
   serial-read = field-read 1 (omega arith)
 
-  pub content-read : be (gets c (headSize + placeSize * k + 4) 4) ≡ placeAt c k .content
+  pub content-read : be (gets c (headSize + placeSize current * k + 4) 4) ≡ placeAt c k .content
   unfolding offset placeNumbers
   content-read = field-read 2 (omega arith)
 
-  period-read : be (gets c (headSize + placeSize * k + 8) 2) ≡ placeAt c k .period .0
+  pub period-read : be (gets c (headSize + placeSize current * k + 8) 4) ≡ placeAt c k .period .0
   unfolding offset placeNumbers
   period-read = field-read 3 (omega arith)
 
-  requested-read : be (gets c (headSize + placeSize * k + 10) 2) ≡ placeAt c k .requested .0
+  pub requested-read : be (gets c (headSize + placeSize current * k + 12) 2) ≡ placeAt c k .requested .0
   unfolding offset placeNumbers
   requested-read = field-read 4 (omega arith)
 
-  pub sent-read : be (gets c (headSize + placeSize * k + 12) 2) ≡ placeAt c k .sent .0
+  pub sent-read : be (gets c (headSize + placeSize current * k + 14) 2) ≡ placeAt c k .sent .0
   unfolding offset placeNumbers
   sent-read = field-read 5 (omega arith)
 
-  pub wait-read : be (gets c (headSize + placeSize * k + 14) 2) ≡ placeAt c k .wait .0
+  pub wait-read : be (gets c (headSize + placeSize current * k + 16) 4) ≡ placeAt c k .wait .0
   unfolding offset placeNumbers
   wait-read = field-read 6 (omega arith)
 
-  pub sib-read : be (gets c (headSize + placeSize * k + 16) 1) ≡ placeAt c k .sib
+  pub sib-read : be (gets c (headSize + placeSize current * k + 20) 1) ≡ placeAt c k .sib
   unfolding offset placeNumbers
   sib-read = field-read 7 (omega arith)
 
-  mark-read : be (gets c (headSize + placeSize * k + 17) 1) ≡ 1
+  mark-read : be (gets c (headSize + placeSize current * k + 21) 1) ≡ 1
   unfolding offset placeNumbers
   mark-read = field-read 8 (omega arith)
 
-  pub text-read : be (gets c (headSize + placeSize * k) 4) ≡ textOf (placeAt c k)
+  pub text-read : be (gets c (headSize + placeSize current * k) 4) ≡ textOf (placeAt c k)
   unfolding textOf
-  text-read = sym (be-run 2 2 c (headSize + placeSize * k) (headSize + placeSize * k + 2) refl) ∙ rw (identifier-read, serial-read)
+  text-read = sym (be-run 2 2 c (headSize + placeSize current * k) (headSize + placeSize current * k + 2) refl) ∙ rw (identifier-read, serial-read)
 
   pub identifier-half : textOf (placeAt c k) / 65536 ≡ placeAt c k .identifier
-  identifier-half = rw (← text-read) (upper-half c (headSize + placeSize * k) (headSize + placeSize * k + 2) bytes refl ∙ identifier-read)
+  identifier-half = rw (← text-read) (upper-half c (headSize + placeSize current * k) (headSize + placeSize current * k + 2) bytes refl ∙ identifier-read)
 
   pub serial-half : textOf (placeAt c k) % 65536 ≡ placeAt c k .serial
-  serial-half = rw (← text-read) (lower-half c (headSize + placeSize * k) (headSize + placeSize * k + 2) bytes refl ∙ serial-read)
-
-  pub period-half : be (gets c (headSize + placeSize * k + 8) 4) / 65536 ≡ placeAt c k .period .0
-  period-half = upper-half c (headSize + placeSize * k + 8) (headSize + placeSize * k + 10) bytes (omega arith) ∙ period-read
-
-  pub requested-half : be (gets c (headSize + placeSize * k + 8) 4) % 65536 ≡ placeAt c k .requested .0
-  requested-half = lower-half c (headSize + placeSize * k + 8) (headSize + placeSize * k + 10) bytes (omega arith) ∙ requested-read
-
-  pub sent-half : be (gets c (headSize + placeSize * k + 12) 4) / 65536 ≡ placeAt c k .sent .0
-  sent-half = upper-half c (headSize + placeSize * k + 12) (headSize + placeSize * k + 14) bytes (omega arith) ∙ sent-read
-
-  pub wait-half : be (gets c (headSize + placeSize * k + 12) 4) % 65536 ≡ placeAt c k .wait .0
-  wait-half = lower-half c (headSize + placeSize * k + 12) (headSize + placeSize * k + 14) bytes (omega arith) ∙ wait-read
+  serial-half = rw (← text-read) (lower-half c (headSize + placeSize current * k) (headSize + placeSize current * k + 2) bytes refl ∙ serial-read)
 
 -- ---- live or free
 
 module _ (c : List ℕ) (bytes : Bytes c) (formed : Formed c) (k : ℕ) (room : k < placesPerCell) where
-  no-mark : length (livePlaces c) ≤ k → be (gets c (headSize + placeSize * k + 17) 1) ≡ 0
+  no-mark : length (livePlaces c) ≤ k → be (gets c (headSize + placeSize current * k + 21) 1) ≡ 0
   unfolding be gets
-  no-mark h = ap be (free-gets c formed k h room 17 1 (omega arith))
+  no-mark h = ap be (free-gets c formed k h room 21 1 (omega arith))
 
-  pub live-mark : not (eqb (be (gets c (headSize + placeSize * k + 17) 1)) 0) ≡ ltb k (length (livePlaces c))
+  pub live-mark : not (eqb (be (gets c (headSize + placeSize current * k + 21) 1)) 0) ≡ ltb k (length (livePlaces c))
   live-mark =
       by-test (ltb k (length (livePlaces c)))
       (λ t. rw (t, mark-read c bytes k (live-at c formed k (ltb-true k (length (livePlaces c)) t))))
@@ -128,7 +116,7 @@ module _ (c : List ℕ) (bytes : Bytes c) (formed : Formed c) (k : ℕ) (room : 
 
 -- ---- the head
 
-module _ (c : List ℕ) (long : length c ≡ cellSize) where
+module _ (c : List ℕ) (long : length c ≡ cellSize current) where
   head-read : (f : ℕ) → f < length headFields → getD (numbers headFields (take headSize c)) f 0 ≡ be (gets c (offset headFields f) (getD headFields f 0))
   unfolding size
   head-read f h =

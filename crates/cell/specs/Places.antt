@@ -5,21 +5,21 @@ use mathlib.Core.List.{List, [], _∷_, _++_}
 use Prim.Native.Nat.{ℕ, suc, _+_, _*_, _<_}
 use lib.Dec.{eqb}
 use lib.ListN.{length, getD, take, drop}
-use Rattle.rules.specs.Layout.{headSize, placeSize, placesPerCell, cellSize}
+use Rattle.rules.specs.Layout.{current, headSize, placeSize, placesPerCell, cellSize}
 use Rattle.rules.specs.Table.{areasUsed, allAreas, headOf, isLive, placesOf, placeRuns, placesBytes}
 use Rattle.rules.specs.declared.Place.{Place}
 use Rattle.cell.specs.declared.read.Areas.{Areas}
 
 abbrev pub livePlaces : List ℕ → List Place
-livePlaces c = placesOf (placeRuns c)
+livePlaces c = placesOf current (placeRuns current c)
 
 -- the cell with other places; its head stays
 unfoldable pub withPlaces : List ℕ → List Place → List ℕ
-withPlaces c ps = take headSize c ++ placesBytes ps
+withPlaces c ps = take headSize c ++ placesBytes current ps
 
 -- a cell whose live places come first and whose free ones are zero: less than legal
 pub record Formed (c : List ℕ) : Type 0 where
-  pub size : length c ≡ cellSize
+  pub size : length c ≡ cellSize current
   pub whole : c ≡ withPlaces c (livePlaces c)
 
 -- ---- one place
@@ -55,8 +55,8 @@ pub record FreeAt (c : List ℕ) (k : ℕ) : Type 0 where
 
 -- the bytes of a live place
 pub record OnePlace (b : List ℕ) : Type 0 where
-  pub long : length b ≡ placeSize
-  pub live : isLive b ≡ true
+  pub long : length b ≡ placeSize current
+  pub live : isLive current b ≡ true
 
 -- ---- the place of a text
 

@@ -18,6 +18,7 @@ use rules::layout::LIVE_AT;
 use rules::layout::PERIOD_AT;
 use rules::layout::PLACE;
 use rules::layout::PLACES;
+use rules::layout::REQUESTED_AT;
 use rules::layout::SENT_AT;
 use rules::layout::SIB_AT;
 use rules::layout::WAIT_AT;
@@ -25,7 +26,7 @@ ghost use mathlib.Core.Path.{_≡_};
 ghost use Prim.Native.Nat.{_<_};
 ghost use lib.Dec.{ltb};
 ghost use lib.ListN.{length, take};
-ghost use Rattle.rules.specs.Layout.{headSize, placesPerCell, cellSize};
+ghost use Rattle.rules.specs.Layout.{current, headSize, placesPerCell, cellSize};
 ghost use Rattle.rules.specs.Identity.{trackingItem};
 ghost use Rattle.rules.specs.Table.{headOf};
 ghost use Rattle.cell.specs.Places.{livePlaces, Formed, placeAt, LiveAt, textOf, indexOf, HeadAreas};
@@ -71,10 +72,9 @@ pub fn terms_of(cell: &[u8], k: usize) -> Terms
     requires { ⌜ LiveAt (now cell) k ⌝ }
     ensures { λ r. ⌜ (r .period ≡ placeAt (now (cell .entry)) k .period) × (r .requested ≡ placeAt (now (cell .entry)) k .requested) ⌝ }
 {
-    let both = get32(cell, HEAD + PLACE * k + PERIOD_AT);
     Terms {
-        period: Seconds(both / 65536),
-        requested: Broadcasts((both % 65536) as u16),
+        period: Seconds(get32(cell, HEAD + PLACE * k + PERIOD_AT)),
+        requested: Broadcasts(get16(cell, HEAD + PLACE * k + REQUESTED_AT)),
     }
 }
 
@@ -82,11 +82,9 @@ pub fn counts_of(cell: &[u8], k: usize) -> Counts
     requires { ⌜ LiveAt (now cell) k ⌝ }
     ensures { λ r. ⌜ (r .sent ≡ placeAt (now (cell .entry)) k .sent) × (r .wait ≡ placeAt (now (cell .entry)) k .wait) ⌝ }
 {
-    let both = get32(cell, HEAD + PLACE * k + SENT_AT);
-    Counts {
-        sent: Broadcasts((both / 65536) as u16),
-        wait: Seconds(both % 65536),
-    }
+    let sent = sent(cell, k);
+    let wait = wait(cell, k);
+    Counts { sent, wait }
 }
 
 pub fn sent(cell: &[u8], k: usize) -> Broadcasts
@@ -100,7 +98,7 @@ pub fn wait(cell: &[u8], k: usize) -> Seconds
     requires { ⌜ LiveAt (now cell) k ⌝ }
     ensures { λ r. ⌜ r ≡ placeAt (now (cell .entry)) k .wait ⌝ }
 {
-    Seconds(get16(cell, HEAD + PLACE * k + WAIT_AT) as u32)
+    Seconds(get32(cell, HEAD + PLACE * k + WAIT_AT))
 }
 
 pub fn place(cell: &[u8], k: usize) -> Place
@@ -169,7 +167,7 @@ pub struct Areas {
 }
 
 pub fn identity(cell: &[u8]) -> u64
-    requires { ⌜ length (now cell) ≡ cellSize ⌝ }
+    requires { ⌜ length (now cell) ≡ cellSize current ⌝ }
     ensures { λ r. ⌜ r ≡ headOf (take headSize (now (cell .entry))) .identity ⌝ }
 {
     get64(cell, 0)
@@ -177,14 +175,14 @@ pub fn identity(cell: &[u8]) -> u64
 
 // The item that names the cell's tracking area.
 pub fn tracking(cell: &[u8]) -> u64
-    requires { ⌜ length (now cell) ≡ cellSize ⌝ }
+    requires { ⌜ length (now cell) ≡ cellSize current ⌝ }
     ensures { λ r. ⌜ r ≡ trackingItem (headOf (take headSize (now (cell .entry))) .identity) (headOf (take headSize (now (cell .entry))) .code) ⌝ }
 {
     CellIdentity(identity(cell)).tracking_item(get24(cell, CODE_AT))
 }
 
 pub fn areas_of(cell: &[u8]) -> Areas
-    requires { ⌜ length (now cell) ≡ cellSize ⌝ }
+    requires { ⌜ length (now cell) ≡ cellSize current ⌝ }
     ensures { λ r. ⌜ HeadAreas (take headSize (now (cell .entry))) r ⌝ }
 {
     Areas {

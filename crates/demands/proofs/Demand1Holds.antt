@@ -2,8 +2,9 @@
 -- What is returned and left is what the definition says, and the definition's refusals leave everything as it was.
 use mathlib.Core.Path.{_≡_, refl, ap, _∙_}
 use Rattle.octets.proofs.Once.{one-outcome}
+use Rattle.rules.specs.Layout.{current}
 use Rattle.rules.specs.Applied.{Filled, ReadOutcome, Outcome, itemAt}
-use Rattle.rules.proofs.OutcomeLaws.{built-refused, written-refused, read-refused, applied-refused}
+use Rattle.rules.proofs.OutcomeLaws.{built-refused, conversion-refused, written-refused, read-refused, applied-refused}
 use Rattle.segments.specs.Segments.{Lies}
 use Rattle.segments.proofs.Refused.{lies-refused, packed-refused}
 use Rattle.demands.specs.Demand1.{Demand1, OneOutcome}
@@ -60,8 +61,11 @@ demand-1 =
       build-refuses = λ heads table d table′ p h.
           let x = built-refused heads table (λ z. h (number-filled p ∙ z)) in
           (length-filled p ∙ x .0, buffer-filled p ∙ x .1);
+      convert-refuses = λ old table d table′ p h.
+          let x = conversion-refused old table (λ z. h (number-filled p ∙ z)) in
+          (length-filled p ∙ x .0, buffer-filled p ∙ x .1);
       apply-refuses = λ table req answer d table′ answer′ p h.
-          let x = applied-refused table req answer (λ z. h (number-left p ∙ z)) in
+          let x = applied-refused current table req answer (λ z. h (number-left p ∙ z)) in
           (length-left p ∙ x .0, table-left p ∙ x .1, answer-left p ∙ x .2);
       write-refuses = λ request items buffer d buffer′ p h.
           let x = written-refused request items buffer (λ z. h (number-filled p ∙ z)) in
@@ -84,6 +88,9 @@ pub one-outcome-only : OneOutcome
 one-outcome-only =
     record {
       build-once = λ heads table d e table′ table″ p q.
+          let o = one-outcome p q in
+          (number-filled o, length-filled o, buffer-filled o);
+      convert-once = λ old table d e table′ table″ p q.
           let o = one-outcome p q in
           (number-filled o, length-filled o, buffer-filled o);
       apply-once = λ table req answer d e table′ answer′ table″ answer″ p q.

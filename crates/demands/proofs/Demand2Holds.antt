@@ -7,81 +7,83 @@ use Prim.Native.Nat.{ℕ, _+_, _*_, _<_}
 use lib.ListN.{length, take, drop, getD}
 use Rattle.octets.specs.Runs.{Bytes}
 use Rattle.octets.proofs.RunsLaws.{length-pieces, sets-front}
-use Rattle.rules.specs.Layout.{headerSize, headSize, cellSize, answerSize, rowSize}
+use Rattle.rules.specs.Layout.{current, headerSize, headSize, cellSize, answerSize, rowSize}
 use Rattle.rules.specs.Table.{cellOf, cellBytes, cellCount, cellRuns, cellsOf, tableBytes}
 use Rattle.rules.specs.Record.{requestOf, itemsOf}
 use Rattle.rules.specs.Answer.{Row, answerBytes}
 use Rattle.rules.specs.Refusals.{tableVerdict, applyVerdict}
-use Rattle.rules.specs.Applied.{Outcome, stepCell, cellAfter, outcome, applied}
+use Rattle.rules.specs.Applied.{Outcome, readOf, reading, stepCell, cellAfter, outcome, applied}
 use Rattle.rules.specs.declared.Verdict.the-variants.{Accepted}
 use Rattle.rules.proofs.ListsLaws.{by-test}
 use Rattle.rules.proofs.JoinedLaws.{all-at, getD-map}
 use Rattle.rules.proofs.CellCodec.{cell-back, head-of-cellBytes}
 use Rattle.rules.proofs.TableCodec.{table-accepted, table-cells, table-back, length-cellsOf}
 use Rattle.rules.proofs.StepLaws.{step-reached, rows-reached, rows-unreached}
-use Rattle.rules.proofs.OutcomeLaws.{applied-accepted}
+use Rattle.rules.proofs.OutcomeLaws.{applied-accepted, read-accepted}
 use Rattle.rules.proofs.AppliedLaws.{call-accepted, length-answerBytes, applied-table, applied-answer, applied-cells, applied-legal, applied-bytes, applied-count, applied-length, answer-fits, applied-header, applied-runs}
 use Rattle.rules.proofs.AppliedRuns.{table-of-runs, idle-cells, idle-answer}
-use Rattle.rules.proofs.RoundTrips.{write-read, read-write}
-use Rattle.demands.specs.Demand2.{cellAt, reached, ruled, rowsOf, TableChanged, Answered, Idle, AcceptedCall, Demand2}
+use Rattle.rules.proofs.RenewedLaws.{request-renewed, count-renewed, items-renewed, renewed-same}
+use Rattle.rules.proofs.RecordTrips.{record-accepted}
+use Rattle.rules.proofs.RoundTrips.{write-read, read-write, renewed-accepted}
+use Rattle.demands.specs.Demand2.{cellAt, reached, ruled, rowsOf, TableChanged, Answered, Idle, ReadWrite, AcceptedCall, Demand2}
 
-module _ (t r a : List ℕ) (bt : Bytes t) (br : Bytes r) (e : applyVerdict t r (length a) ≡ Accepted) where
-  legal : tableVerdict t ≡ Accepted
-  legal = call-accepted t r (length a) e .table
+module _ (t r a : List ℕ) (bt : Bytes t) (br : Bytes r) (e : applyVerdict current t r (length a) ≡ Accepted) where
+  legal : tableVerdict current t ≡ Accepted
+  legal = call-accepted current t r (length a) e .table
 
   -- ---- one cell
 
   module _ (k : ℕ) (h : k < cellCount t) where
-    in-runs : k < length (cellRuns t)
-    in-runs = rw (length-pieces cellSize (cellCount t) (drop headerSize t)) h
+    in-runs : k < length (cellRuns current t)
+    in-runs = rw (length-pieces (cellSize current) (cellCount t) (drop headerSize t)) h
 
-    in-cells : k < length (cellsOf t)
-    in-cells = rw (length-cellsOf t) h
+    in-cells : k < length (cellsOf current t)
+    in-cells = rw (length-cellsOf current t) h
 
-    cell-after : cellAt (applied t r a .table) k ≡ cellAfter (requestOf r) (itemsOf r) (cellAt t k)
+    cell-after : cellAt (applied current t r a .table) k ≡ cellAfter current (requestOf r) (itemsOf r) (cellAt t k)
     cell-after =
-        ap (λ l. getD l k []) (applied-runs t r a bt br e)
-        ∙ getD-map (cellAfter (requestOf r) (itemsOf r)) (cellRuns t) k [] [] in-runs
+        ap (λ l. getD l k []) (applied-runs current t r a bt br e)
+        ∙ getD-map (cellAfter current (requestOf r) (itemsOf r)) (cellRuns current t) k [] [] in-runs
 
-    stays : reached r (cellOf (cellAt t k)) ≡ false → cellAt (applied t r a .table) k ≡ cellAt t k
+    stays : reached r (cellOf current (cellAt t k)) ≡ false → cellAt (applied current t r a .table) k ≡ cellAt t k
     unfolding cellAfter
     stays x = cell-after ∙ rw x
 
-    changes : reached r (cellOf (cellAt t k)) ≡ true → cellAt (applied t r a .table) k ≡ cellBytes (ruled r (cellOf (cellAt t k)))
+    changes : reached r (cellOf current (cellAt t k)) ≡ true → cellAt (applied current t r a .table) k ≡ cellBytes current (ruled r (cellOf current (cellAt t k)))
     unfolding cellAfter
-    changes x = cell-after ∙ rw (x, step-reached (requestOf r) (itemsOf r) (cellOf (cellAt t k)) x)
+    changes x = cell-after ∙ rw (x, step-reached (requestOf r) (itemsOf r) (cellOf current (cellAt t k)) x)
 
-    reads : reached r (cellOf (cellAt t k)) ≡ true → cellOf (cellAt (applied t r a .table) k) ≡ ruled r (cellOf (cellAt t k))
+    reads : reached r (cellOf current (cellAt t k)) ≡ true → cellOf current (cellAt (applied current t r a .table) k) ≡ ruled r (cellOf current (cellAt t k))
     unfolding cellsOf
     reads x =
-        sym (getD-map cellOf (cellRuns (applied t r a .table)) k [] (cellOf []) in-after)
-        ∙ ap (λ l. getD l k (cellOf [])) (applied-cells t r a bt br e)
-        ∙ getD-map (stepCell (requestOf r) (itemsOf r)) (map cellOf (cellRuns t)) k (cellOf []) (cellOf []) in-cells
-        ∙ ap (stepCell (requestOf r) (itemsOf r)) (getD-map cellOf (cellRuns t) k [] (cellOf []) in-runs)
-        ∙ step-reached (requestOf r) (itemsOf r) (cellOf (cellAt t k)) x
+        sym (getD-map (cellOf current) (cellRuns current (applied current t r a .table)) k [] (cellOf current []) in-after)
+        ∙ ap (λ l. getD l k (cellOf current [])) (applied-cells current t r a bt br e)
+        ∙ getD-map (stepCell (requestOf r) (itemsOf r)) (map (cellOf current) (cellRuns current t)) k (cellOf current []) (cellOf current []) in-cells
+        ∙ ap (stepCell (requestOf r) (itemsOf r)) (getD-map (cellOf current) (cellRuns current t) k [] (cellOf current []) in-runs)
+        ∙ step-reached (requestOf r) (itemsOf r) (cellOf current (cellAt t k)) x
       where
-        in-after : k < length (cellRuns (applied t r a .table))
+        in-after : k < length (cellRuns current (applied current t r a .table))
         in-after =
-            rw (length-pieces cellSize (cellCount (applied t r a .table)) (drop headerSize (applied t r a .table)), applied-count t r a bt br e) h
+            rw (length-pieces (cellSize current) (cellCount (applied current t r a .table)) (drop headerSize (applied current t r a .table)), applied-count current t r a bt br e) h
 
     -- the head of a changed cell is encoded from the decoded one
-    head-same : take headSize (cellAt (applied t r a .table) k) ≡ take headSize (cellAt t k)
+    head-same : take headSize (cellAt (applied current t r a .table) k) ≡ take headSize (cellAt t k)
     head-same =
-        let f = all-at (table-cells t bt legal) k [] in-runs in
-        let c = cellOf (cellAt t k) in
+        let f = all-at (table-cells current t bt legal) k [] in-runs in
+        let c = cellOf current (cellAt t k) in
         by-test (reached r c)
-        (λ x. ap (take headSize) (changes x) ∙ head-of-cellBytes (ruled r c) ∙ sym (head-of-cellBytes c) ∙ ap (take headSize) (cell-back (cellAt t k) (f .0) (f .1) (f .2)))
+        (λ x. ap (take headSize) (changes x) ∙ head-of-cellBytes current (ruled r c) ∙ sym (head-of-cellBytes current c) ∙ ap (take headSize) (cell-back current (cellAt t k) (f .0) (f .1) (f .2)))
         (λ x. ap (take headSize) (stays x))
 
-  on-table : TableChanged t r (applied t r a)
+  on-table : TableChanged t r (applied current t r a)
   on-table =
       record {
-        same-length = applied-length t r a bt br e;
-        same-header = applied-header t r a bt br e;
-        same-count = applied-count t r a bt br e;
-        legal = applied-legal t r a bt br e;
-        bytes = applied-bytes t r a bt br e;
-        whole = table-of-runs (applied t r a .table) (applied-legal t r a bt br e);
+        same-length = applied-length current t r a bt br e;
+        same-header = applied-header current t r a bt br e;
+        same-count = applied-count current t r a bt br e;
+        legal = applied-legal current t r a bt br e;
+        bytes = applied-bytes current t r a bt br e;
+        whole = table-of-runs current (applied current t r a .table) (applied-legal current t r a bt br e);
         unreached-stays = stays;
         reached-ruled = changes;
         reached-reads = reads;
@@ -90,46 +92,60 @@ module _ (t r a : List ℕ) (bt : Bytes t) (br : Bytes r) (e : applyVerdict t r 
 
   -- ---- the answer
 
-  written-length : applied t r a .length ≡ length (answerBytes (requestOf r) (rowsOf t r))
+  written-length : applied current t r a .length ≡ length (answerBytes (requestOf r) (rowsOf t r))
   unfolding applied outcome
   written-length = rw e
 
-  on-answer : Answered t r a (applied t r a)
+  on-answer : Answered t r a (applied current t r a)
   unfolding answerBytes
   on-answer =
       record {
         answer-whole =
-            applied-answer t r a bt br e
-            ∙ sets-front a (answerBytes (requestOf r) (rowsOf t r)) (answer-fits t r a bt br e)
+            applied-answer current t r a bt br e
+            ∙ sets-front a (answerBytes (requestOf r) (rowsOf t r)) (answer-fits current t r a bt br e)
             ∙ rw (written-length, append-assoc);
         answer-length = written-length ∙ length-answerBytes (requestOf r) (rowsOf t r);
-        answer-fits = rw written-length (answer-fits t r a bt br e);
+        answer-fits = rw written-length (answer-fits current t r a bt br e);
         reached-told = rows-reached (requestOf r) (itemsOf r);
         unreached-silent = rows-unreached (requestOf r) (itemsOf r);
-        cells-ascend = table-accepted t legal .order;
+        cells-ascend = table-accepted current t legal .order;
       }
 
   -- ---- the zero rules
 
-  on-idle : Idle t r (applied t r a)
+  on-idle : Idle t r (applied current t r a)
   on-idle k z =
-      let none = idle-answer (requestOf r) (itemsOf r) k z (cellsOf t) in (
-        applied-table t r a bt br e ∙ ap tableBytes (idle-cells (requestOf r) (itemsOf r) k z (cellsOf t)) ∙ table-back t bt legal,
+      let none = idle-answer (requestOf r) (itemsOf r) k z (cellsOf current t) in (
+        applied-table current t r a bt br e ∙ ap (tableBytes current) (idle-cells (requestOf r) (itemsOf r) k z (cellsOf current t)) ∙ table-back current t bt legal,
         none,
         written-length ∙ length-answerBytes (requestOf r) (rowsOf t r) ∙ ap (λ (l : List Row). answerSize + rowSize * length l) none,
       )
 
-  holds : AcceptedCall t r a (applied t r a)
+  holds : AcceptedCall t r a (applied current t r a)
   holds = record { on-table = on-table; on-answer = on-answer; on-idle = on-idle }
 
 -- ---- all of it
 
-accepted-call : (t r a : List ℕ) → Bytes t → Bytes r → applied t r a .number ≡ 0 → AcceptedCall t r a (applied t r a)
-accepted-call t r a bt br e = holds t r a bt br (applied-accepted t r a e)
+accepted-call : (t r a : List ℕ) → Bytes t → Bytes r → applied current t r a .number ≡ 0 → AcceptedCall t r a (applied current t r a)
+accepted-call t r a bt br e = holds t r a bt br (applied-accepted current t r a e)
 
 -- whatever equals `applied`
-of-promised : (t r a : List ℕ) → Bytes t → Bytes r → (o : Outcome) → o ≡ applied t r a → o .number ≡ 0 → AcceptedCall t r a o
+of-promised : (t r a : List ℕ) → Bytes t → Bytes r → (o : Outcome) → o ≡ applied current t r a → o .number ≡ 0 → AcceptedCall t r a o
 of-promised t r a bt br o p e = rw p (accepted-call t r a bt br (rw p at e))
+
+-- a record that was read, written
+read-back : ReadWrite
+unfolding readOf reading
+read-back r buffer b e h =
+    let v = read-accepted r e in
+    let a = record-accepted current r v in
+    let long = a .long in
+    record {
+      written-back = read-write r buffer b e h;
+      same-bytes = renewed-same r long b;
+      same-fields = rw (v, renewed-accepted r a, request-renewed r long, count-renewed r long);
+      same-items = items-renewed r long;
+    }
 
 pub demand-2 : Demand2
 demand-2 =
@@ -137,5 +153,5 @@ demand-2 =
       accepted = accepted-call;
       promised = λ t r a bt br d t′ a′ p e. of-promised t r a bt br _ p e;
       write-read = λ q items buffer f e. let w = write-read q items buffer f e in (w .size, w .reads, w .reads-items);
-      read-write = read-write;
+      read-write = read-back;
     }

@@ -2,14 +2,14 @@
 -- Six outcomes are computed; each wrong unit differs from one of them, or from two, in a byte or a length.
 use mathlib.Core.Path.{_≡_, refl, sym, ap, _∙_}
 use mathlib.Core.List.{_++_, flatMap}
-use Prim.Native.Nat.{ℕ}
+use Prim.Native.Nat.{ℕ, _+_}
 use native.Mathlib.Omega.{arith}
 use lib.ListN.{getD}
 use Rattle.octets.specs.Runs.{Bytes, gets, pieces}
 use Rattle.octets.specs.Numbers.{be, toBe}
 use Rattle.octets.specs.Fields.{size, numbers, bytesOf, filled}
 use Rattle.rules.specs.Lists.{every, any, those, zeros, oneOf, above, ascending}
-use Rattle.rules.specs.Layout.{field}
+use Rattle.rules.specs.Layout.{current, field, headerSize, headSize, cellSize}
 use Rattle.rules.specs.Table.{headOf, headNumbers, headBytes, legalHead, placeOf, placeNumbers, placeBytes, isFree, isLive, liveFirst, placesOf, legalPlace, isText, running, different, legalPlaces, cellOf, placesBytes, cellBytes, legalCell, cellsOf, headerBytes, tableBytes, tableMarked, legalTable}
 use Rattle.rules.specs.Record.{requestOf, itemsOf, recordMarked, row, kindAllows, areaFits, withinLimits, cancelsNothing}
 use Rattle.rules.specs.Reach.{names, reaches}
@@ -17,7 +17,8 @@ use Rattle.rules.specs.InCell.{startsNothing, newPlace, start, cancel, inCell}
 use Rattle.rules.specs.Answer.{rowBytes, answerHead, answerBytes, roomFor}
 use Rattle.rules.specs.Refusals.{tableVerdict, requestVerdict, recordVerdict, applyVerdict}
 use Rattle.rules.specs.Applied.{Outcome, stepCell, cellRows, outcome, applied}
-use Rattle.rules.specs.Samples.{free, answers, says, blank, leaves, one, two, twice, flood}
+use Rattle.rules.specs.ByHand.{free, answers, says, blank, leaves, one}
+use Rattle.rules.specs.Samples.{two, twice, flood}
 use Rattle.demands.specs.Demand2.{cellAt}
 use Rattle.demands.specs.Demand2Refuted.{CallUnit, Meets, RefusesEverything, SameForEveryTable, SameForEveryRecord, ChangesNothing, ChangesFirstCellOnly, ReportsFirstCellOnly, FirstRequestOnly, InventsCounts, refusing, fixed, unchanging, firstCell, inventing, Demand2Refuted}
 use Rattle.demands.specs.Demand3Samples.{starting, stopping}
@@ -27,13 +28,13 @@ use Rattle.demands.proofs.Demand3SamplesHold.{bytes-tested}
 
 record Computed : Type 0 where
   -- a start where nothing is live, in one cell and in two
-  started : applied (one (free 4)) starting blank ≡ leaves (one (flood 0 0)) (answers 1 4370 16 1 ++ says 16 0 0)
-  started-two : applied (two (free 4) (free 4)) starting blank ≡ leaves (two (flood 0 0) (flood 0 0)) (answers 1 4370 16 2 ++ says 16 0 0 ++ says 32 0 0)
+  started : applied current (one (free 4)) starting blank ≡ leaves (one (flood 0 0)) (answers 1 4370 16 1 ++ says 16 0 0)
+  started-two : applied current (two (free 4) (free 4)) starting blank ≡ leaves (two (flood 0 0) (flood 0 0)) (answers 1 4370 16 2 ++ says 16 0 0 ++ says 32 0 0)
   -- a cancel where nothing is live, and of the text sent never, once and twice
-  stopped-none : applied (one (free 4)) stopping blank ≡ leaves (one (free 4)) (answers 2 4370 16 0)
-  stopped-new : applied (one (flood 0 0)) stopping blank ≡ leaves (one (free 4)) (answers 2 4370 16 1 ++ says 16 0 0)
-  stopped-once : applied (one (flood 1 1)) stopping blank ≡ leaves (one (free 4)) (answers 2 4370 16 1 ++ says 16 1 0)
-  stopped-twice : applied twice stopping blank ≡ leaves (one (free 4)) (answers 2 4370 16 1 ++ says 16 2 0)
+  stopped-none : applied current (one (free 4)) stopping blank ≡ leaves (one (free 4)) (answers 2 4370 16 0)
+  stopped-new : applied current (one (flood 0 0)) stopping blank ≡ leaves (one (free 4)) (answers 2 4370 16 1 ++ says 16 0 0)
+  stopped-once : applied current (one (flood 1 1)) stopping blank ≡ leaves (one (free 4)) (answers 2 4370 16 1 ++ says 16 1 0)
+  stopped-twice : applied current twice stopping blank ≡ leaves (one (free 4)) (answers 2 4370 16 1 ++ says 16 2 0)
   -- a start needs room for one row of a cell
   one-row : roomFor (requestOf starting .kind) 1 ≡ 26
   free-bytes : Bytes (one (free 4))
@@ -168,7 +169,7 @@ demand-2-refuted =
       not-unchanging = λ m. not-unchanged unchanging m (λ t r a. refl);
       -- the first byte of the second cell's first place stays
       not-firstCell = λ m.
-          let z : _≡_ {A = ℕ} 0 17 = ap (λ (o : Outcome). getD (o .table) 144 0) (rw (computed .started-two) at (started-two firstCell m)) in
+          let z : _≡_ {A = ℕ} 0 17 = ap (λ (o : Outcome). getD (o .table) (headerSize + cellSize current + headSize) 0) (rw (computed .started-two) at (started-two firstCell m)) in
           omega arith;
       not-inventing = λ m.
           let z : _≡_ {A = ℕ} 0 2 = ap (λ (o : Outcome). getD (o .answer) 21 0) (rw (computed .stopped-twice) at (stopped-twice inventing m)) in

@@ -8,6 +8,7 @@ use lib.Dec.{eqb}
 use lib.ListN.{length}
 use borrow.Author.Tests.{eqb-true}
 use Rattle.rules.specs.Lists.{any, zeros, oneOf}
+use Rattle.rules.specs.Layout.{current}
 use Rattle.rules.specs.Table.{cellsOf}
 use Rattle.rules.specs.Record.{noArea, oneSecond, requestOf, itemsOf, identifierToSib, row, kindAllows}
 use Rattle.rules.specs.Reach.{reaches}
@@ -24,11 +25,11 @@ use Rattle.rules.proofs.AppliedLaws.{call-accepted}
 use Rattle.demands.specs.Demand3.{Call, outcomeOn, run, AcceptedAnywhere, CellsStay, SecondReachesAll}
 use Rattle.demands.proofs.Runs.{cellBefore, verdict-stays, run-goes, cells-after}
 
-number-of : (u : List ℕ) (c : Call) → outcomeOn u c .number ≡ verdictNumber (applyVerdict u (c .req) (length (c .answer)))
+number-of : (u : List ℕ) (c : Call) → outcomeOn u c .number ≡ verdictNumber (applyVerdict current u (c .req) (length (c .answer)))
 unfolding applied outcome
-number-of u c = go (applyVerdict u (c .req) (length (c .answer)))
+number-of u c = go (applyVerdict current u (c .req) (length (c .answer)))
   where
-    go : (v : Verdict) → outcome v (requestOf (c .req)) (itemsOf (c .req)) u (c .answer) .number ≡ verdictNumber v
+    go : (v : Verdict) → outcome current v (requestOf (c .req)) (itemsOf (c .req)) u (c .answer) .number ≡ verdictNumber v
     go Accepted = refl
     go (Refused x) = refl
 
@@ -41,7 +42,7 @@ accepted-anywhere t bytes legal before c =
 pub cells-stay : CellsStay
 cells-stay t bytes legal before =
     ap (map (λ c. c .head)) (cells-after t legal bytes before)
-    ∙ map-map (λ c. c .head) (cellBefore t before (length before)) (cellsOf t)
+    ∙ map-map (λ c. c .head) (cellBefore t before (length before)) (cellsOf current t)
 
 row-area : (q : Request) (flags areas zero : List ℕ) → row q flags areas zero ≡ true → oneOf (q .area) areas ≡ true
 unfolding row
@@ -58,6 +59,6 @@ second-area q e k =
 pub second-reaches-all : SecondReachesAll
 unfolding reaches
 second-reaches-all t c e k cell =
-    let accepted = call-accepted t (c .req) (length (c .answer)) (applied-accepted t (c .req) (c .answer) e) in
-    let allowed = request-accepted (requestOf (c .req)) (itemsOf (c .req)) (record-accepted (c .req) (accepted .req) .request) in
+    let accepted = call-accepted current t (c .req) (length (c .answer)) (applied-accepted current t (c .req) (c .answer) e) in
+    let allowed = request-accepted _ (requestOf (c .req)) (itemsOf (c .req)) (record-accepted current (c .req) (accepted .req) .request) in
     rw (second-area (requestOf (c .req)) (allowed .kind) k)

@@ -8,6 +8,7 @@ use Prim.Native.Nat.{ℕ, _<_}
 use native.Mathlib.Omega.{arith}
 use lib.ListN.{length, take, getElem?}
 use Rattle.octets.specs.Runs.{Bytes}
+use Rattle.rules.specs.Layout.{current}
 use Rattle.rules.specs.Table.{Head, Cell, cellsOf, tableBytes}
 use Rattle.rules.specs.Record.{requestOf, itemsOf}
 use Rattle.rules.specs.Refusals.{tableVerdict}
@@ -37,9 +38,9 @@ touches-some t h (some c) e =
     let b = both (takes (verdict t c)) (reachesHead c h) e in
     (c, refl, accepted-number t c (takes-accepted (verdict t c) (b .0)), b .1)
 
-module _ (t : List ℕ) (bytes : Bytes t) (legal : tableVerdict t ≡ Accepted) (xs ys : List Call) (p : Permuted xs ys) (kept : KeepsOrder t xs (p .place)) where
+module _ (t : List ℕ) (bytes : Bytes t) (legal : tableVerdict current t ≡ Accepted) (xs ys : List Call) (p : Permuted xs ys) (kept : KeepsOrder t xs (p .place)) where
   -- both orders, as one cell of the table sees them
-  orders : (n : ℕ) (x : Cell) → getElem? (cellsOf t) n ≡ some x
+  orders : (n : ℕ) (x : Cell) → getElem? (cellsOf current t) n ≡ some x
       → Orders (steps t xs (x .head)) (steps t ys (x .head)) (λ i. touches t (x .head) (getElem? xs i)) (length xs) (length ys) (p .place) (p .origin)
   orders n x at =
       record {
@@ -57,26 +58,26 @@ module _ (t : List ℕ) (bytes : Bytes t) (legal : tableVerdict t ≡ Accepted) 
       }
 
   -- at level places the cell is the same
-  cell-same : (n : ℕ) (x : Cell) (at : getElem? (cellsOf t) n ≡ some x) (m k : ℕ) → Level (orders n x at) m k → cellBefore t ys k x ≡ cellBefore t xs m x
+  cell-same : (n : ℕ) (x : Cell) (at : getElem? (cellsOf current t) n ≡ some x) (m k : ℕ) → Level (orders n x at) m k → cellBefore t ys k x ≡ cellBefore t xs m x
   cell-same n x at m k l = ap {B = Cell} (λ ps. record { head = x .head; places = ps }) (sym (zip (orders n x at) m k l (x .places)))
 
   -- ---- the table
 
-  cells-same : cellsOf (run t ys .0) ≡ cellsOf (run t xs .0)
+  cells-same : cellsOf current (run t ys .0) ≡ cellsOf current (run t xs .0)
   cells-same =
       cells-after t legal bytes ys
       ∙ map-all (cellBefore t ys (length ys)) (cellBefore t xs (length xs))
-      (all-positions (cellsOf t) (λ n x at. cell-same n x at (length xs) (length ys) (level-end (orders n x at))))
+      (all-positions (cellsOf current t) (λ n x at. cell-same n x at (length xs) (length ys) (level-end (orders n x at))))
       ∙ sym (cells-after t legal bytes xs)
 
   table-same : run t ys .0 ≡ run t xs .0
-  table-same = sym (table-after t legal bytes ys) ∙ ap tableBytes cells-same ∙ table-after t legal bytes xs
+  table-same = sym (table-after t legal bytes ys) ∙ ap (tableBytes current) cells-same ∙ table-after t legal bytes xs
 
   -- ---- the results
 
   module _ (i : ℕ) (h : i < length xs) (c : Call) (at-i : getElem? xs i ≡ some c) where
     -- a cell that the call reaches is the same before it in both orders, and no other is reported
-    row-same : verdict t c ≡ Accepted → (n : ℕ) (x : Cell) → getElem? (cellsOf t) n ≡ some x → rowsIn c (cellBefore t ys (p .place i) x) ≡ rowsIn c (cellBefore t xs i x)
+    row-same : verdict t c ≡ Accepted → (n : ℕ) (x : Cell) → getElem? (cellsOf current t) n ≡ some x → rowsIn c (cellBefore t ys (p .place i) x) ≡ rowsIn c (cellBefore t xs i x)
     row-same e n x at =
         by-test (reachesHead c (x .head))
         (λ r. ap (rowsIn c) (cell-same n x at i (p .place i) (level-at (orders n x at) i h (rw (at-i, e, r)))))
@@ -88,9 +89,9 @@ module _ (t : List ℕ) (bytes : Bytes t) (legal : tableVerdict t ≡ Accepted) 
     rows-same : verdict t c ≡ Accepted → rowsOf c (run t (take (p .place i) ys) .0) ≡ rowsOf c (run t (take i xs) .0)
     rows-same e =
         ap (flatMap (rowsIn c)) (cells-before t legal bytes ys (p .place i) (omega (arith, place-in p i h)))
-        ∙ flatMap-map (rowsIn c) (cellBefore t ys (p .place i)) (cellsOf t)
-        ∙ flatMap-all (λ x. rowsIn c (cellBefore t ys (p .place i) x)) (λ x. rowsIn c (cellBefore t xs i x)) (all-positions (cellsOf t) (row-same e))
-        ∙ sym (flatMap-map (rowsIn c) (cellBefore t xs i) (cellsOf t))
+        ∙ flatMap-map (rowsIn c) (cellBefore t ys (p .place i)) (cellsOf current t)
+        ∙ flatMap-all (λ x. rowsIn c (cellBefore t ys (p .place i) x)) (λ x. rowsIn c (cellBefore t xs i x)) (all-positions (cellsOf current t) (row-same e))
+        ∙ sym (flatMap-map (rowsIn c) (cellBefore t xs i) (cellsOf current t))
         ∙ sym (ap (flatMap (rowsIn c)) (cells-before t legal bytes xs i (omega arith)))
 
     result-there : (r : Result) × (getElem? (run t xs .1) i ≡ some r) × (getElem? (run t ys .1) (p .place i) ≡ some r)

@@ -13,7 +13,7 @@ use Rattle.octets.specs.Runs.{Bytes, gets, pieces}
 use Rattle.octets.specs.Numbers.{be, toBe}
 use Rattle.octets.specs.Fields.{size, numbers, bytesOf, filled}
 use Rattle.rules.specs.Lists.{every, any, those, zeros, oneOf, above, ascending}
-use Rattle.rules.specs.Layout.{field}
+use Rattle.rules.specs.Layout.{current, field}
 use Rattle.rules.specs.Table.{Cell, headOf, headNumbers, headBytes, legalHead, placeOf, placeNumbers, placeBytes, isFree, isLive, liveFirst, placesOf, legalPlace, isText, running, different, legalPlaces, cellOf, placesBytes, cellBytes, legalCell, cellsOf, headerBytes, tableBytes, tableMarked, legalTable}
 use Rattle.rules.specs.Record.{requestOf, itemsOf, recordMarked, row, kindAllows, areaFits, withinLimits, cancelsNothing}
 use Rattle.rules.specs.Reach.{names, reaches}
@@ -21,9 +21,9 @@ use Rattle.rules.specs.InCell.{startsNothing, newPlace, start, cancel, inCell}
 use Rattle.rules.specs.Answer.{rowBytes, answerHead, answerBytes, roomFor}
 use Rattle.rules.specs.Refusals.{tableVerdict, requestVerdict, recordVerdict, applyVerdict}
 use Rattle.rules.specs.Applied.{stepCell, cellRows, outcome, applied}
-use Rattle.rules.specs.Samples.{head, free}
+use Rattle.rules.specs.ByHand.{head, free}
 use Rattle.rules.proofs.ListsLaws.{both, and-true, neither}
-use Rattle.demands.specs.Demand3.{Call, run, Meet, KeepsOrder}
+use Rattle.demands.specs.Demand3.{Call, runIn, Meet, KeepsOrder}
 use Rattle.demands.specs.Demand3Samples.{callOf, starting, stopping, startingHere, stoppingThere, twoCells, Demand3Shown}
 use Rattle.demands.proofs.Positions.{position-in}
 use Rattle.demands.proofs.Permutations.{permuted}
@@ -47,9 +47,9 @@ none-at f (y ∷ l) zero {x} n e = let s : y ≡ x = cc in rw (← s) (neither (
 none-at f (y ∷ l) (suc k) n e = none-at f l k (neither (f y) (any f l) n .1) e
 
 -- calls that reach no common cell do not meet
-apart : (t : List ℕ) (c d : Call) → any (λ (x : Cell). reachesHead c (x .head) && reachesHead d (x .head)) (cellsOf t) ≡ false → Meet t c d → ⊥
+apart : (t : List ℕ) (c d : Call) → any (λ (x : Cell). reachesHead c (x .head) && reachesHead d (x .head)) (cellsOf current t) ≡ false → Meet t c d → ⊥
 apart t c d n m =
-    let e = none-at (λ x. reachesHead c (x .head) && reachesHead d (x .head)) (cellsOf t) (m .index) n (m .in-table) in
+    let e = none-at (λ x. reachesHead c (x .head) && reachesHead d (x .head)) (cellsOf current t) (m .index) n (m .in-table) in
     false≢true (sym e ∙ and-true (reachesHead c (m .cell .head)) (reachesHead d (m .cell .head)) (m .first-reaches) (m .second-reaches))
 
 -- two calls that do not meet may stand in any order
@@ -65,7 +65,7 @@ keeps-two t c d n place i j a b h p q m =
 -- ---- the samples
 
 pub demand-3-shown : Demand3Shown
-unfolding flatMap gets pieces be toBe size numbers bytesOf filled every any those zeros oneOf above ascending field headOf headNumbers headBytes legalHead placeOf placeNumbers placeBytes isFree isLive liveFirst placesOf legalPlace isText running different legalPlaces cellOf placesBytes cellBytes legalCell cellsOf headerBytes tableBytes tableMarked legalTable requestOf itemsOf recordMarked row kindAllows areaFits withinLimits cancelsNothing names reaches startsNothing newPlace start cancel inCell rowBytes answerHead answerBytes roomFor tableVerdict requestVerdict recordVerdict applyVerdict stepCell cellRows outcome applied run
+unfolding flatMap gets pieces be toBe size numbers bytesOf filled every any those zeros oneOf above ascending field headOf headNumbers headBytes legalHead placeOf placeNumbers placeBytes isFree isLive liveFirst placesOf legalPlace isText running different legalPlaces cellOf placesBytes cellBytes legalCell cellsOf headerBytes tableBytes tableMarked legalTable requestOf itemsOf recordMarked row kindAllows areaFits withinLimits cancelsNothing names reaches startsNothing newPlace start cancel inCell rowBytes answerHead answerBytes roomFor tableVerdict requestVerdict recordVerdict applyVerdict stepCell cellRows outcome applied runIn
 demand-3-shown =
     record {
       starting-bytes = bytes-tested starting refl;
@@ -76,7 +76,7 @@ demand-3-shown =
                 record {
                   first-accepted = refl;
                   second-accepted = refl;
-                  cell = cellOf (head 16 1 ++ free 4);
+                  cell = cellOf current (head 16 1 ++ free 4);
                   index = 0;
                   in-table = refl;
                   first-reaches = refl;

@@ -9,3 +9,4 @@ pub mod Demand3Chains
 pub mod Demand3Besides
 pub mod Demand3SamplesHold
 pub mod Demand2RefutedHolds
+pub mod ConversionHolds

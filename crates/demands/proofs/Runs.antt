@@ -9,6 +9,7 @@ use native.Mathlib.Omega.{arith}
 use lib.ListN.{length, take, getElem?}
 use lib.Seq.{take-all}
 use Rattle.octets.specs.Runs.{Bytes}
+use Rattle.rules.specs.Layout.{current}
 use Rattle.rules.specs.Table.{Head, Cell, cellCount, cellsOf, tableBytes}
 use Rattle.rules.specs.Record.{requestOf, itemsOf}
 use Rattle.rules.specs.Reach.{reaches}
@@ -23,7 +24,7 @@ use Rattle.rules.proofs.ListsLaws.{by-test}
 use Rattle.rules.proofs.AllLaws.{all-of, map-all}
 use Rattle.rules.proofs.TableCodec.{table-back}
 use Rattle.rules.proofs.AppliedLaws.{acceptance-stays, applied-cells, applied-legal, applied-bytes, applied-count}
-use Rattle.demands.specs.Demand3.{Call, outcomeOn, resultOf, run}
+use Rattle.demands.specs.Demand3.{Call, outcomeOn, resultOf, run, runIn}
 use Rattle.demands.proofs.Zip.{after, after-shift}
 
 abbrev pub takes : Verdict → Bool
@@ -38,12 +39,12 @@ abbrev pub rowsIn : Call → Cell → List Row
 rowsIn c x = cellRows (requestOf (c .req)) (itemsOf (c .req)) x
 
 abbrev pub rowsOf : Call → List ℕ → List Row
-rowsOf c u = flatMap (rowsIn c) (cellsOf u)
+rowsOf c u = flatMap (rowsIn c) (cellsOf current u)
 
 module _ (t : List ℕ) where
   -- on the first table, and so on each
   abbrev pub verdict : Call → Verdict
-  verdict c = applyVerdict t (c .req) (length (c .answer))
+  verdict c = applyVerdict current t (c .req) (length (c .answer))
 
   -- whether a call, if there is one, touches a cell with this head, and what it makes of the cell's places
   abbrev pub touches : Head → Option Call → Bool
@@ -68,7 +69,7 @@ module _ (t : List ℕ) where
   -- a table of a run that began with t
   pub record OfRun (u : List ℕ) : Type 0 where
     pub bytes : Bytes u
-    pub accepted : tableVerdict u ≡ Accepted
+    pub accepted : tableVerdict current u ≡ Accepted
     pub count : cellCount u ≡ cellCount t
 
   -- ---- one call
@@ -83,53 +84,53 @@ module _ (t : List ℕ) where
 
   record Leaves (u : List ℕ) (c : Call) : Type 0 where
     of-run : OfRun (outcomeOn u c .table)
-    cells : cellsOf (outcomeOn u c .table) ≡ map (afterCall c) (cellsOf u)
+    cells : cellsOf current (outcomeOn u c .table) ≡ map (afterCall c) (cellsOf current u)
 
-  module _ (legal : tableVerdict t ≡ Accepted) where
-    pub verdict-stays : (u : List ℕ) → OfRun u → (c : Call) → applyVerdict u (c .req) (length (c .answer)) ≡ verdict c
-    verdict-stays u g c = acceptance-stays u t (c .req) (length (c .answer)) (g .accepted) legal (g .count)
+  module _ (legal : tableVerdict current t ≡ Accepted) where
+    pub verdict-stays : (u : List ℕ) → OfRun u → (c : Call) → applyVerdict current u (c .req) (length (c .answer)) ≡ verdict c
+    verdict-stays u g c = acceptance-stays current u t (c .req) (length (c .answer)) (g .accepted) legal (g .count)
 
     call-leaves : (u : List ℕ) → OfRun u → (c : Call) → Leaves u c
     unfolding applied outcome
     call-leaves u g c = go (verdict c) (verdict-stays u g c) refl
       where
-        go : (v : Verdict) → applyVerdict u (c .req) (length (c .answer)) ≡ verdict c → verdict c ≡ v → Leaves u c
+        go : (v : Verdict) → applyVerdict current u (c .req) (length (c .answer)) ≡ verdict c → verdict c ≡ v → Leaves u c
         go Accepted s e =
             let a = s ∙ e in
             record {
               of-run =
                   record {
-                    bytes = applied-bytes u (c .req) (c .answer) (g .bytes) (c .are-bytes) a;
-                    accepted = applied-legal u (c .req) (c .answer) (g .bytes) (c .are-bytes) a;
-                    count = applied-count u (c .req) (c .answer) (g .bytes) (c .are-bytes) a ∙ g .count;
+                    bytes = applied-bytes current u (c .req) (c .answer) (g .bytes) (c .are-bytes) a;
+                    accepted = applied-legal current u (c .req) (c .answer) (g .bytes) (c .are-bytes) a;
+                    count = applied-count current u (c .req) (c .answer) (g .bytes) (c .are-bytes) a ∙ g .count;
                   };
               cells =
-                  applied-cells u (c .req) (c .answer) (g .bytes) (c .are-bytes) a
-                  ∙ map-all (stepCell (requestOf (c .req)) (itemsOf (c .req))) (afterCall c) (all-of (afterCall-accepted c e) (cellsOf u));
+                  applied-cells current u (c .req) (c .answer) (g .bytes) (c .are-bytes) a
+                  ∙ map-all (stepCell (requestOf (c .req)) (itemsOf (c .req))) (afterCall c) (all-of (afterCall-accepted c e) (cellsOf current u));
             }
         go (Refused x) s e =
             record {
               of-run = rw (s ∙ e) g;
-              cells = rw (s ∙ e) (sym (map-all (afterCall c) (λ y. y) (all-of (λ y. rw e) (cellsOf u)) ∙ map-id (cellsOf u)));
+              cells = rw (s ∙ e) (sym (map-all (afterCall c) (λ y. y) (all-of (λ y. rw e) (cellsOf current u)) ∙ map-id (cellsOf current u)));
             }
 
     -- ---- call after call
 
     goes-on : (xs : List Call) (u : List ℕ) → OfRun u → OfRun (run u xs .0)
-    unfolding run
+    unfolding runIn
     goes-on [] u g = g
     goes-on (c ∷ xs) u g = goes-on xs (outcomeOn u c .table) (call-leaves u g c .of-run)
 
-    cells-on : (xs : List Call) (u : List ℕ) → OfRun u → (i : ℕ) → i ≤ length xs → cellsOf (run u (take i xs) .0) ≡ map (cellBefore xs i) (cellsOf u)
-    unfolding run after
-    cells-on xs u g zero h = sym (map-id (cellsOf u))
+    cells-on : (xs : List Call) (u : List ℕ) → OfRun u → (i : ℕ) → i ≤ length xs → cellsOf current (run u (take i xs) .0) ≡ map (cellBefore xs i) (cellsOf current u)
+    unfolding runIn after
+    cells-on xs u g zero h = sym (map-id (cellsOf current u))
     cells-on [] u g (suc i) h = absurd (omega arith)
     cells-on (c ∷ xs) u g (suc i) h =
         cells-on xs (outcomeOn u c .table) (call-leaves u g c .of-run) i (omega arith)
         ∙ ap (map (cellBefore xs i)) (call-leaves u g c .cells)
-        ∙ map-map (cellBefore xs i) (afterCall c) (cellsOf u)
+        ∙ map-map (cellBefore xs i) (afterCall c) (cellsOf current u)
         ∙ map-all (λ x. cellBefore xs i (afterCall c x)) (cellBefore (c ∷ xs) (suc i))
-        (all-of (λ x. ap {B = Cell} (λ ps. record { head = x .head; places = ps }) (sym (after-shift (steps (c ∷ xs) (x .head)) i (x .places)))) (cellsOf u))
+        (all-of (λ x. ap {B = Cell} (λ ps. record { head = x .head; places = ps }) (sym (after-shift (steps (c ∷ xs) (x .head)) i (x .places)))) (cellsOf current u))
 
     -- ---- results
 
@@ -139,7 +140,7 @@ module _ (t : List ℕ) where
     result-same u v g k c h = rw (verdict-stays u g c, verdict-stays v k c) (go (verdict c) h)
       where
         go : (w : Verdict) → (w ≡ Accepted → rowsOf c u ≡ rowsOf c v)
-            → resultOf (outcome w (requestOf (c .req)) (itemsOf (c .req)) u (c .answer)) ≡ resultOf (outcome w (requestOf (c .req)) (itemsOf (c .req)) v (c .answer))
+            → resultOf (outcome current w (requestOf (c .req)) (itemsOf (c .req)) u (c .answer)) ≡ resultOf (outcome current w (requestOf (c .req)) (itemsOf (c .req)) v (c .answer))
         go Accepted h = rw (h refl)
         go (Refused x) h = refl
 
@@ -152,18 +153,18 @@ module _ (t : List ℕ) where
       pub run-goes : (xs : List Call) → OfRun (run t xs .0)
       run-goes xs = goes-on xs t began
 
-      pub cells-before : (xs : List Call) (i : ℕ) → i ≤ length xs → cellsOf (run t (take i xs) .0) ≡ map (cellBefore xs i) (cellsOf t)
+      pub cells-before : (xs : List Call) (i : ℕ) → i ≤ length xs → cellsOf current (run t (take i xs) .0) ≡ map (cellBefore xs i) (cellsOf current t)
       cells-before xs i h = cells-on xs t began i h
 
-      pub cells-after : (xs : List Call) → cellsOf (run t xs .0) ≡ map (cellBefore xs (length xs)) (cellsOf t)
+      pub cells-after : (xs : List Call) → cellsOf current (run t xs .0) ≡ map (cellBefore xs (length xs)) (cellsOf current t)
       cells-after xs = rw (take-all (length xs) xs (omega arith)) at (cells-before xs (length xs) (omega arith))
 
-      pub table-after : (xs : List Call) → tableBytes (cellsOf (run t xs .0)) ≡ run t xs .0
-      table-after xs = table-back (run t xs .0) (run-goes xs .bytes) (run-goes xs .accepted)
+      pub table-after : (xs : List Call) → tableBytes current (cellsOf current (run t xs .0)) ≡ run t xs .0
+      table-after xs = table-back current (run t xs .0) (run-goes xs .bytes) (run-goes xs .accepted)
 
 -- the result of call i is that on the table before it
 pub result-at : (xs : List Call) (u : List ℕ) (i : ℕ) → getElem? (run u xs .1) i ≡ Option·map (λ c. resultOf (outcomeOn (run u (take i xs) .0) c)) (getElem? xs i)
-unfolding run
+unfolding runIn
 result-at [] u i = refl
 result-at (c ∷ xs) u zero = refl
 result-at (c ∷ xs) u (suc i) = result-at xs (outcomeOn u c .table) i

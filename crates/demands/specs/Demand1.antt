@@ -3,7 +3,8 @@
 use mathlib.Core.Path.{_≡_}
 use mathlib.Core.List.{List}
 use Prim.Native.Nat.{ℕ}
-use Rattle.rules.specs.Applied.{built, written, readOf, itemAt, applied, noRequest}
+use Rattle.rules.specs.Layout.{current}
+use Rattle.rules.specs.Applied.{built, conversion, written, readOf, itemAt, applied, noRequest}
 use Rattle.rules.specs.declared.Request.{Request}
 use Rattle.segments.specs.Segments.{liesAt, packed}
 use Rattle.pws.specs.Surface.{filled, left, lies, readTo}
@@ -11,13 +12,16 @@ use Rattle.pws.specs.declared.PwsDone.{PwsDone}
 use Rattle.pws.specs.declared.PwsReading.{PwsReading}
 use Rattle.pws.specs.declared.PwsPart.{PwsPart}
 
--- ---- the seven promises: the arguments, then what is returned and what stands in the lent buffers afterwards
+-- ---- the eight promises: the arguments, then what is returned and what stands in the lent buffers afterwards
 
 abbrev pub BuildPromise : (heads table : List ℕ) → PwsDone → List ℕ → Type 0
 BuildPromise heads table d table′ = filled d table′ ≡ built heads table
 
+abbrev pub ConvertPromise : (old table : List ℕ) → PwsDone → List ℕ → Type 0
+ConvertPromise old table d table′ = filled d table′ ≡ conversion old table
+
 abbrev pub ApplyPromise : (table req answer : List ℕ) → PwsDone → List ℕ → List ℕ → Type 0
-ApplyPromise table req answer d table′ answer′ = left d table′ answer′ ≡ applied table req answer
+ApplyPromise table req answer d table′ answer′ = left d table′ answer′ ≡ applied current table req answer
 
 abbrev pub ReadPromise : (req : List ℕ) → PwsReading → Type 0
 ReadPromise req d = readTo d ≡ readOf req
@@ -40,6 +44,8 @@ PackPromise bytes lengths list d list′ = filled d list′ ≡ packed bytes len
 pub record Demand1 : Type 0 where
   pub build-refuses : (heads table : List ℕ) (d : PwsDone) (table′ : List ℕ) → BuildPromise heads table d table′
       → (d .number ≡ 0 → ⊥) → (d .length ≡ 0) × (table′ ≡ table)
+  pub convert-refuses : (old table : List ℕ) (d : PwsDone) (table′ : List ℕ) → ConvertPromise old table d table′
+      → (d .number ≡ 0 → ⊥) → (d .length ≡ 0) × (table′ ≡ table)
   pub apply-refuses : (table req answer : List ℕ) (d : PwsDone) (table′ answer′ : List ℕ) → ApplyPromise table req answer d table′ answer′
       → (d .number ≡ 0 → ⊥) → (d .length ≡ 0) × (table′ ≡ table) × (answer′ ≡ answer)
   pub write-refuses : (request : Request) (items buffer : List ℕ) (d : PwsDone) (buffer′ : List ℕ) → WritePromise request items buffer d buffer′
@@ -61,6 +67,9 @@ pub record Demand1 : Type 0 where
 pub record OneOutcome : Type 0 where
   pub build-once : (heads table : List ℕ) (d e : PwsDone) (table′ table″ : List ℕ)
       → BuildPromise heads table d table′ → BuildPromise heads table e table″
+      → (d .number ≡ e .number) × (d .length ≡ e .length) × (table′ ≡ table″)
+  pub convert-once : (old table : List ℕ) (d e : PwsDone) (table′ table″ : List ℕ)
+      → ConvertPromise old table d table′ → ConvertPromise old table e table″
       → (d .number ≡ e .number) × (d .length ≡ e .length) × (table′ ≡ table″)
   pub apply-once : (table req answer : List ℕ) (d e : PwsDone) (table′ answer′ table″ answer″ : List ℕ)
       → ApplyPromise table req answer d table′ answer′ → ApplyPromise table req answer e table″ answer″

@@ -1,5 +1,5 @@
 -- Demand 2: an accepted call changes the reached cells by the rule of its kind and nothing else, and its answer reports those cells in order.
--- A record that was written reads back as the request and items given, and one that was read is written back to the same bytes.
+-- A record that was written reads back as the request and items given, and one that was read is written back to the same bytes; one of version 1 (document 02, 3/13) comes back as version 2 with the same fields.
 use mathlib.Core.Path.{_≡_}
 use mathlib.Core.Bool.{Bool, true, false}
 use mathlib.Core.List.{List, [], _++_, map, flatMap}
@@ -8,9 +8,9 @@ use lib.ListN.{length, take, drop, getD}
 use lib.Seq.{sets}
 use Rattle.octets.specs.Runs.{Bytes}
 use Rattle.rules.specs.Lists.{ascending}
-use Rattle.rules.specs.Layout.{headerSize, headSize, recordSize, itemSize, answerSize, rowSize}
+use Rattle.rules.specs.Layout.{current, headerSize, headSize, recordSize, itemSize, recordVersion, answerSize, rowSize}
 use Rattle.rules.specs.Table.{Cell, cellOf, cellBytes, cellCount, cellRuns, cellsOf, identityAt}
-use Rattle.rules.specs.Record.{writeReplace, requestOf, itemsOf}
+use Rattle.rules.specs.Record.{writeReplace, requestOf, itemsOf, versionIn, renewed}
 use Rattle.rules.specs.Reach.{reaches}
 use Rattle.rules.specs.InCell.{inCell, startsNothing}
 use Rattle.rules.specs.Answer.{Row, rowBytes, answerHead}
@@ -25,9 +25,9 @@ use Rattle.demands.specs.Demand1.{ApplyPromise}
 
 -- ---- cells and rows
 
--- the 104 bytes of the k-th cell
+-- the bytes of the k-th cell
 abbrev pub cellAt : List ℕ → ℕ → List ℕ
-cellAt t k = getD (cellRuns t) k []
+cellAt t k = getD (cellRuns current t) k []
 
 -- whether a record reaches a cell
 abbrev pub reached : List ℕ → Cell → Bool
@@ -46,7 +46,7 @@ abbrev pub rowsIn : List ℕ → Cell → List Row
 rowsIn r c = cellRows (requestOf r) (itemsOf r) c
 
 abbrev pub rowsOf : List ℕ → List ℕ → List Row
-rowsOf t r = flatMap (rowsIn r) (cellsOf t)
+rowsOf t r = flatMap (rowsIn r) (cellsOf current t)
 
 -- ---- of a table t, a record r and an answer buffer a: what an outcome says of the table
 
@@ -55,16 +55,16 @@ pub record TableChanged (t r : List ℕ) (o : Outcome) : Type 0 where
   pub same-header : take headerSize (o .table) ≡ take headerSize t
   pub same-count : cellCount (o .table) ≡ cellCount t
   -- it can be the table of the next call
-  pub legal : tableVerdict (o .table) ≡ Accepted
+  pub legal : tableVerdict current (o .table) ≡ Accepted
   pub bytes : Bytes (o .table)
   -- header and cells are all of it
-  pub whole : take headerSize (o .table) ++ flatMap (λ c. c) (cellRuns (o .table)) ≡ o .table
+  pub whole : take headerSize (o .table) ++ flatMap (λ c. c) (cellRuns current (o .table)) ≡ o .table
   -- a cell that is not reached keeps every byte
-  pub unreached-stays : (k : ℕ) → k < cellCount t → reached r (cellOf (cellAt t k)) ≡ false → cellAt (o .table) k ≡ cellAt t k
+  pub unreached-stays : (k : ℕ) → k < cellCount t → reached r (cellOf current (cellAt t k)) ≡ false → cellAt (o .table) k ≡ cellAt t k
   -- a reached one is decoded, changed by the rule and encoded ..
-  pub reached-ruled : (k : ℕ) → k < cellCount t → reached r (cellOf (cellAt t k)) ≡ true → cellAt (o .table) k ≡ cellBytes (ruled r (cellOf (cellAt t k)))
+  pub reached-ruled : (k : ℕ) → k < cellCount t → reached r (cellOf current (cellAt t k)) ≡ true → cellAt (o .table) k ≡ cellBytes current (ruled r (cellOf current (cellAt t k)))
   -- .. and decodes to what the rule left
-  pub reached-reads : (k : ℕ) → k < cellCount t → reached r (cellOf (cellAt t k)) ≡ true → cellOf (cellAt (o .table) k) ≡ ruled r (cellOf (cellAt t k))
+  pub reached-reads : (k : ℕ) → k < cellCount t → reached r (cellOf current (cellAt t k)) ≡ true → cellOf current (cellAt (o .table) k) ≡ ruled r (cellOf current (cellAt t k))
   -- no cell's head changes
   pub head-stays : (k : ℕ) → k < cellCount t → take headSize (cellAt (o .table) k) ≡ take headSize (cellAt t k)
 
@@ -79,7 +79,7 @@ pub record Answered (t r a : List ℕ) (o : Outcome) : Type 0 where
   -- rows are told of reached cells only, by the rule; the cells stand in ascending order, and so do their rows
   pub reached-told : (c : Cell) → reached r c ≡ true → rowsIn r c ≡ told r c
   pub unreached-silent : (c : Cell) → reached r c ≡ false → rowsIn r c ≡ []
-  pub cells-ascend : ascending (map identityAt (cellRuns t)) ≡ true
+  pub cells-ascend : ascending (map identityAt (cellRuns current t)) ≡ true
 
 -- ---- a start that the zero rules stop changes nothing and has no rows
 
@@ -99,11 +99,17 @@ WriteRead =
     × (readOf bytes ≡ record { number = 0; request = q; items = length items })
     × (itemsOf bytes ≡ items)
 
--- what was read is written back to the same bytes, at the start of any buffer that holds them
+-- what was read is written back at the start of any buffer that holds it: the same bytes in the writer's version ..
+pub record ReadBack (r buffer : List ℕ) : Type 0 where
+  pub written-back : written (readOf r .request) (itemsOf r) buffer ≡ record { number = 0; length = length r; buffer = sets buffer 0 (renewed r) }
+  -- .. which are the very bytes if they had that version ..
+  pub same-bytes : versionIn r ≡ recordVersion → renewed r ≡ r
+  -- .. and say the same if they had not
+  pub same-fields : readOf (renewed r) ≡ readOf r
+  pub same-items : itemsOf (renewed r) ≡ itemsOf r
+
 abbrev pub ReadWrite : Type 0
-ReadWrite =
-    (r buffer : List ℕ) → Bytes r → readOf r .number ≡ 0 → length r ≤ length buffer
-    → written (readOf r .request) (itemsOf r) buffer ≡ record { number = 0; length = length r; buffer = sets buffer 0 r }
+ReadWrite = (r buffer : List ℕ) → Bytes r → readOf r .number ≡ 0 → length r ≤ length buffer → ReadBack r buffer
 
 -- ---- THE CLAIM
 
@@ -114,7 +120,7 @@ pub record AcceptedCall (t r a : List ℕ) (o : Outcome) : Type 0 where
 
 pub record Demand2 : Type 0 where
   -- of `applied`
-  pub accepted : (t r a : List ℕ) → Bytes t → Bytes r → applied t r a .number ≡ 0 → AcceptedCall t r a (applied t r a)
+  pub accepted : (t r a : List ℕ) → Bytes t → Bytes r → applied current t r a .number ≡ 0 → AcceptedCall t r a (applied current t r a)
   -- of whatever is returned and left under the promise of the C surface
   pub promised : (t r a : List ℕ) → Bytes t → Bytes r → (d : PwsDone) (t′ a′ : List ℕ) → ApplyPromise t r a d t′ a′
       → d .number ≡ 0 → AcceptedCall t r a (left d t′ a′)

@@ -7,12 +7,12 @@ use lib.ListN.{take, drop}
 use lib.Seq.{sets}
 use Rattle.octets.specs.Runs.{Bytes, gets}
 use Rattle.octets.specs.Numbers.{be}
-use Rattle.rules.specs.Layout.{headerSize, cellSize, answerSize, rowSize}
+use Rattle.rules.specs.Layout.{current, headerSize, cellSize, answerSize, rowSize}
 use Rattle.rules.specs.Record.{requestOf}
 use Rattle.rules.specs.Answer.{roomFor}
 use Rattle.rules.specs.Refusals.{numberOf}
 use Rattle.rules.specs.Applied.{Outcome, applied}
-use Rattle.rules.specs.Samples.{answers}
+use Rattle.rules.specs.ByHand.{answers}
 use Rattle.rules.specs.declared.Refusal.the-variants.{ShortBuffer}
 use Rattle.demands.specs.Demand2.{cellAt}
 
@@ -22,7 +22,7 @@ CallUnit = List ℕ → List ℕ → List ℕ → Outcome
 
 -- apply's promise, kept for all bytes
 abbrev pub Meets : CallUnit → Type 0
-Meets u = (t r a : List ℕ) → Bytes t → Bytes r → u t r a ≡ applied t r a
+Meets u = (t r a : List ℕ) → Bytes t → Bytes r → u t r a ≡ applied current t r a
 
 -- ---- classes of wrong units
 
@@ -66,31 +66,31 @@ refusing t r a = record { number = numberOf ShortBuffer; length = 0; table = t; 
 
 -- a head without rows to every call, though the table is right
 abbrev pub fixed : CallUnit
-fixed t r a = record { number = 0; length = answerSize; table = applied t r a .table; answer = sets a 0 (answers 1 4370 16 0) }
+fixed t r a = record { number = 0; length = answerSize; table = applied current t r a .table; answer = sets a 0 (answers 1 4370 16 0) }
 
 -- the right answer, and the table as it was
 abbrev pub unchanging : CallUnit
 unchanging t r a =
-    record { number = applied t r a .number; length = applied t r a .length; table = t; answer = applied t r a .answer }
+    record { number = applied current t r a .number; length = applied current t r a .length; table = t; answer = applied current t r a .answer }
 
 -- right up to the end of the first cell
 abbrev pub firstCell : CallUnit
 firstCell t r a =
     record {
-      number = applied t r a .number;
-      length = applied t r a .length;
-      table = take (headerSize + cellSize) (applied t r a .table) ++ drop (headerSize + cellSize) t;
-      answer = applied t r a .answer;
+      number = applied current t r a .number;
+      length = applied current t r a .length;
+      table = take (headerSize + cellSize current) (applied current t r a .table) ++ drop (headerSize + cellSize current) t;
+      answer = applied current t r a .answer;
     }
 
 -- right but for the count of the first row, which is always 0
 abbrev pub inventing : CallUnit
 inventing t r a =
     record {
-      number = applied t r a .number;
-      length = applied t r a .length;
-      table = applied t r a .table;
-      answer = sets (applied t r a .answer) 20 (0 ∷ 0 ∷ []);
+      number = applied current t r a .number;
+      length = applied current t r a .length;
+      table = applied current t r a .table;
+      answer = sets (applied current t r a .answer) 20 (0 ∷ 0 ∷ []);
     }
 
 -- ---- THE CLAIM

@@ -7,6 +7,7 @@ use mathlib.Core.List.{List, [], _∷_, map, List·Permᴰ}
 use Prim.Native.Nat.{ℕ, _<_}
 use lib.ListN.{length, getElem?}
 use Rattle.octets.specs.Runs.{Bytes}
+use Rattle.rules.specs.Layout.{Version, current}
 use Rattle.rules.specs.Table.{Cell, cellsOf}
 use Rattle.rules.specs.Record.{oneSecond, requestOf, itemsOf}
 use Rattle.rules.specs.Reach.{reaches}
@@ -28,17 +29,23 @@ pub record Result : Type 0 where
   pub length : ℕ
   pub answer : List ℕ
 
--- what a call leaves behind on a table
+-- what a call leaves behind on a table, in a unit of a version; without one said, today's
+abbrev pub outcomeIn : Version → List ℕ → Call → Outcome
+outcomeIn v t c = applied v t (c .req) (c .answer)
+
 abbrev pub outcomeOn : List ℕ → Call → Outcome
-outcomeOn t c = applied t (c .req) (c .answer)
+outcomeOn t c = outcomeIn current t c
 
 abbrev pub resultOf : Outcome → Result
 resultOf o = record { number = o .number; length = o .length; answer = o .answer }
 
 -- each call on the table that the one before left: the last table, and the results in the order of the calls
-unfoldable pub run : List ℕ → List Call → List ℕ × List Result
-run t [] = (t, [])
-run t (c ∷ cs) = let rest = run (outcomeOn t c .table) cs in (rest .0, resultOf (outcomeOn t c) ∷ rest .1)
+unfoldable pub runIn : Version → List ℕ → List Call → List ℕ × List Result
+runIn v t [] = (t, [])
+runIn v t (c ∷ cs) = let rest = runIn v (outcomeIn v t c .table) cs in (rest .0, resultOf (outcomeIn v t c) ∷ rest .1)
+
+abbrev pub run : List ℕ → List Call → List ℕ × List Result
+run t cs = runIn current t cs
 
 -- ---- calls that meet
 
@@ -54,7 +61,7 @@ pub record Meet (t : List ℕ) (c d : Call) : Type 0 where
   pub second-accepted : Accepted-on t d
   pub cell : Cell
   pub index : ℕ
-  pub in-table : getElem? (cellsOf t) index ≡ some cell
+  pub in-table : getElem? (cellsOf current t) index ≡ some cell
   pub first-reaches : Reaches c cell
   pub second-reaches : Reaches d cell
 
@@ -84,14 +91,14 @@ pub record SameOutcome (xs : List Call) (place : ℕ → ℕ) (first second : Li
 
 abbrev pub Demand3 : Type 0
 Demand3 =
-    (t : List ℕ) → Bytes t → tableVerdict t ≡ Accepted → (xs ys : List Call) (p : Permuted xs ys) → KeepsOrder t xs (p .place)
+    (t : List ℕ) → Bytes t → tableVerdict current t ≡ Accepted → (xs ys : List Call) (p : Permuted xs ys) → KeepsOrder t xs (p .place)
     → SameOutcome xs (p .place) (run t xs) (run t ys)
 
 -- ---- THE CLAIM, of any code that keeps apply's promise
 
 -- what apply promises of a call on a table: all that it leaves behind is what `applied` says
 abbrev pub Promised : List ℕ → Call → Outcome → Type 0
-Promised t c o = o ≡ applied t (c .req) (c .answer)
+Promised t c o = o ≡ applied current t (c .req) (c .answer)
 
 -- outcomes one after the other, each as promised on the table that the one before left, end with a table and give results
 pub data Chain : List ℕ → List Call → List ℕ → List Result → Type 0 where
@@ -100,7 +107,7 @@ pub data Chain : List ℕ → List Call → List ℕ → List Result → Type 0 
 
 abbrev pub Demand3OfChains : Type 0
 Demand3OfChains =
-    (t : List ℕ) → Bytes t → tableVerdict t ≡ Accepted → (xs ys : List Call) (p : Permuted xs ys) → KeepsOrder t xs (p .place)
+    (t : List ℕ) → Bytes t → tableVerdict current t ≡ Accepted → (xs ys : List Call) (p : Permuted xs ys) → KeepsOrder t xs (p .place)
     → (u v : List ℕ) (rs ss : List Result) → Chain t xs u rs → Chain t ys v ss → SameOutcome xs (p .place) (u, rs) (v, ss)
 
 -- ---- what the words of the claim cover
@@ -112,14 +119,14 @@ EveryPermutation = (xs ys : List Call) → List·Permᴰ xs ys → Permuted xs y
 -- `Meet` may read acceptance off the first table: a call gets the same number, 0 or a refusal's, wherever in a run it stands
 abbrev pub AcceptedAnywhere : Type 0
 AcceptedAnywhere =
-    (t : List ℕ) → Bytes t → tableVerdict t ≡ Accepted → (before : List Call) (c : Call)
+    (t : List ℕ) → Bytes t → tableVerdict current t ≡ Accepted → (before : List Call) (c : Call)
     → outcomeOn (run t before .0) c .number ≡ outcomeOn t c .number
 
 -- and reach too: the cells have the same heads at any time of a run
 abbrev pub CellsStay : Type 0
 CellsStay =
-    (t : List ℕ) → Bytes t → tableVerdict t ≡ Accepted → (before : List Call)
-    → map (λ c. c .head) (cellsOf (run t before .0)) ≡ map (λ c. c .head) (cellsOf t)
+    (t : List ℕ) → Bytes t → tableVerdict current t ≡ Accepted → (before : List Call)
+    → map (λ c. c .head) (cellsOf current (run t before .0)) ≡ map (λ c. c .head) (cellsOf current t)
 
 -- an accepted second reaches every cell: it meets every accepted call that reaches one, with no rule of its own
 abbrev pub SecondReachesAll : Type 0

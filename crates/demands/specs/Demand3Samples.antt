@@ -4,9 +4,11 @@ use mathlib.Core.Path.{_≡_}
 use mathlib.Core.List.{List, [], _∷_, _++_}
 use Prim.Native.Nat.{ℕ, zero, suc}
 use Rattle.octets.specs.Runs.{Bytes}
+use Rattle.rules.specs.Layout.{current}
 use Rattle.rules.specs.Refusals.{tableVerdict}
 use Rattle.rules.specs.declared.Verdict.the-variants.{Accepted}
-use Rattle.rules.specs.Samples.{identity, free, request, starts, cancels, answers, says, blank, leaves, one, two, flood}
+use Rattle.rules.specs.ByHand.{identity, free, request, starts, cancels, answers, says, blank, leaves, one}
+use Rattle.rules.specs.Samples.{two, flood}
 use Rattle.demands.specs.Demand3.{Call, Result, resultOf, run, Meet, Permuted, KeepsOrder, SameOutcome}
 
 -- a call with a blank answer buffer, and what it gets if it is accepted: the answer at the start of it
@@ -57,7 +59,7 @@ twoCells = two (free 4) (flood 2 1)
 pub record TheyDoNot (start stop : Call) : Type 0 where
   -- every premise of the demand
   pub table-bytes : Bytes twoCells
-  pub legal : tableVerdict twoCells ≡ Accepted
+  pub legal : tableVerdict current twoCells ≡ Accepted
   pub order : Permuted (start ∷ stop ∷ []) (stop ∷ start ∷ [])
   pub keeps : KeepsOrder twoCells (start ∷ stop ∷ []) (order .place)
   pub this-order : run twoCells (start ∷ stop ∷ [])

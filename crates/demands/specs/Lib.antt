@@ -3,3 +3,4 @@ pub mod Demand2
 pub mod Demand2Refuted
 pub mod Demand3
 pub mod Demand3Samples
+pub mod Conversion

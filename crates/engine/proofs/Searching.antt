@@ -14,7 +14,7 @@ use Rattle.octets.specs.Turned.{turned}
 use Rattle.octets.proofs.PiecesLaws.{pieces-next}
 use Rattle.octets.proofs.TurnedLaws.{turned-twice}
 use Rattle.rules.specs.Lists.{any, oneOf}
-use Rattle.rules.specs.Layout.{itemSize, recordSize}
+use Rattle.rules.specs.Layout.{current, itemSize, recordSize}
 use Rattle.rules.specs.Table.{cellOf}
 use Rattle.rules.specs.Record.{noArea, itemCount, itemsOf}
 use Rattle.rules.specs.Reach.{names, reaches}
@@ -213,19 +213,19 @@ one-named s key x n e = rw (n, e) (or-false (eqb x key))
 
 -- the keys decide among the items to look through, where there is an area
 pub search-start : (area : ℕ) (r : List ℕ) (n todo : ℕ) (c : List ℕ) (s : Naming) → n ≡ itemCount r → todo ≡ cond (eqb (s .keys) 0) 0 n
-    → ((x : ℕ) → eqb area noArea ≡ false → namedBy s x ≡ names area (cellOf c .head) x)
-    → reaches area (itemsOf r) (cellOf c .head) ≡ cond (eqb area noArea) true (any (byKeys s) (itemsFrom recordSize todo r))
+    → ((x : ℕ) → eqb area noArea ≡ false → namedBy s x ≡ names area (cellOf current c .head) x)
+    → reaches area (itemsOf r) (cellOf current c .head) ≡ cond (eqb area noArea) true (any (byKeys s) (itemsFrom recordSize todo r))
 unfolding reaches itemsOf namedBy
 search-start area r n todo c s en et h = go (eqb area noArea) (eqb (s .keys) 0) refl refl
   where
     go : (b k : Bool) → eqb area noArea ≡ b → eqb (s .keys) 0 ≡ k
-        → cond (eqb area noArea) true (any (names area (cellOf c .head)) (itemsFrom recordSize (itemCount r) r)) ≡ cond (eqb area noArea) true (any (byKeys s) (itemsFrom recordSize todo r))
+        → cond (eqb area noArea) true (any (names area (cellOf current c .head)) (itemsFrom recordSize (itemCount r) r)) ≡ cond (eqb area noArea) true (any (byKeys s) (itemsFrom recordSize todo r))
     go true k e f = rw e
     go false true e f =
         let z : todo ≡ 0 = et ∙ rw f in
         rw (e, search-none (byKeys s) r recordSize todo z)
-        (any-none (names area (cellOf c .head)) (λ _. false) (λ x. sym (h x e) ∙ rw f) (itemsFrom recordSize (itemCount r) r))
+        (any-none (names area (cellOf current c .head)) (λ _. false) (λ x. sym (h x e) ∙ rw f) (itemsFrom recordSize (itemCount r) r))
     go false false e f =
         let z : todo ≡ itemCount r = et ∙ rw f en in
         rw (e, z)
-        (any-same (names area (cellOf c .head)) (byKeys s) (λ x. sym (h x e) ∙ rw f) (itemsFrom recordSize (itemCount r) r))
+        (any-same (names area (cellOf current c .head)) (byKeys s) (λ x. sym (h x e) ∙ rw f) (itemsFrom recordSize (itemCount r) r))

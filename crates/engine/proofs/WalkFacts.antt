@@ -14,7 +14,7 @@ use lib.Seq.{sets, length-take-le}
 use Rattle.octets.specs.Runs.{Bytes}
 use Rattle.octets.proofs.RunsLaws.{bytes-drop}
 use Rattle.rules.specs.Lists.{any, oneOf, zeros}
-use Rattle.rules.specs.Layout.{headerSize, headSize, cellSize, recordSize, itemSize, answerSize, rowSize, placesPerCell, mostCells}
+use Rattle.rules.specs.Layout.{current, headerSize, headSize, cellSize, recordSize, itemSize, answerSize, rowSize, placesPerCell, mostCells}
 use Rattle.rules.specs.Table.{headOf, cellOf, legalCell, cellCount, cellRuns}
 use Rattle.rules.specs.Record.{noArea, oneSecond, requestOf, itemsOf, identifierToSib, row, kindAllows}
 use Rattle.rules.specs.Reach.{names, reaches}
@@ -42,40 +42,40 @@ use Rattle.engine.proofs.Walking.{Going, cell-long, cell-bytes, cell-le
 -- ---- a cell, by whether it is reached
 
 module _ (q : Request) (items c : List ℕ) where
-  pub after-unreached : reaches (q .area) items (cellOf c .head) ≡ false → (cellAfter q items c ≡ c) × (cellRows q items (cellOf c) ≡ [])
+  pub after-unreached : reaches (q .area) items (cellOf current c .head) ≡ false → (cellAfter current q items c ≡ c) × (cellRows q items (cellOf current c) ≡ [])
   unfolding cellAfter
-  after-unreached e = (rw e, rows-unreached q items (cellOf c) e)
+  after-unreached e = (rw e, rows-unreached q items (cellOf current c) e)
 
-  module _ (b : Bytes c) (n : length c ≡ cellSize) (l : legalCell c ≡ true) (e : reaches (q .area) items (cellOf c .head) ≡ true) where
-    pub after-reached : cellAfter q items c ≡ withPlaces c (inCell q (livePlaces c) .places)
+  module _ (b : Bytes c) (n : length c ≡ cellSize current) (l : legalCell current c ≡ true) (e : reaches (q .area) items (cellOf current c .head) ≡ true) where
+    pub after-reached : cellAfter current q items c ≡ withPlaces c (inCell q (livePlaces c) .places)
     unfolding cellAfter cellOf
     after-reached =
-        rw (e, step-reached q items (cellOf c) e)
-        (sym (withPlaces-cell c b n (legal-cell c l .0) (inCell q (livePlaces c) .places)))
+        rw (e, step-reached q items (cellOf current c) e)
+        (sym (withPlaces-cell c b n (legal-cell current c l .0) (inCell q (livePlaces c) .places)))
 
-    pub rows-of-reached : flatMap rowBytes (cellRows q items (cellOf c)) ≡ rowsBytes c (inCell q (livePlaces c) .rows)
+    pub rows-of-reached : flatMap rowBytes (cellRows q items (cellOf current c)) ≡ rowsBytes c (inCell q (livePlaces c) .rows)
     unfolding rowsBytes cellOf
-    rows-of-reached = rw (rows-reached q items (cellOf c) e)
+    rows-of-reached = rw (rows-reached q items (cellOf current c) e)
 
-    pub count-of-reached : length (cellRows q items (cellOf c)) ≡ length (inCell q (livePlaces c) .rows)
+    pub count-of-reached : length (cellRows q items (cellOf current c)) ≡ length (inCell q (livePlaces c) .rows)
     unfolding cellOf
-    count-of-reached = rw (rows-reached q items (cellOf c) e) (length-map (inCell q (livePlaces c) .rows) (rowOf (cellOf c)))
+    count-of-reached = rw (rows-reached q items (cellOf current c) e) (length-map (inCell q (livePlaces c) .rows) (rowOf (cellOf current c)))
 
 -- ---- the walk's own facts: q is the request, items its items, per the rows that a cell may have
 
 abbrev pub GoingOn : Request → List ℕ → List ℕ → List ℕ → ℕ → ℕ → ℕ → ℕ → List ℕ → List ℕ → ℕ → ℕ → ℕ → ℕ → Type 0
-GoingOn q items = Going (cellAfter q items) (λ c. cellRows q items (cellOf c)) (rowsPerCell (q .kind))
+GoingOn q items = Going (cellAfter current q items) (λ c. cellRows q items (cellOf current c)) (rowsPerCell (q .kind))
 
 pub few-rows : (kind : ℕ) → rowsPerCell kind ≤ placesPerCell
 few-rows kind = cond-either (λ n. n ≤ placesPerCell) (eqb kind oneSecond) placesPerCell 1 (λ _. omega arith) (λ _. omega arith)
 
-module _ (t : List ℕ) (cells : ℕ) (r : List ℕ) (q : Request) (a : List ℕ) (bytes : Bytes t) (accepted : applyVerdict t r (length a) ≡ Accepted) (n : cells ≡ cellCount t) (request : q ≡ requestOf r) where
-  pub begin : GoingOn q (itemsOf r) (tableAfter q (itemsOf r) t (cellRuns t)) (sets a answerSize (flatMap rowBytes (rowsAfter q (itemsOf r) (cellRuns t))))
-      (length (rowsAfter q (itemsOf r) (cellRuns t))) (placesPerCell * mostCells) (length t) (length a) t a headerSize answerSize 0 cells
+module _ (t : List ℕ) (cells : ℕ) (r : List ℕ) (q : Request) (a : List ℕ) (bytes : Bytes t) (accepted : applyVerdict current t r (length a) ≡ Accepted) (n : cells ≡ cellCount t) (request : q ≡ requestOf r) where
+  pub begin : GoingOn q (itemsOf r) (tableAfter q (itemsOf r) t (cellRuns current t)) (sets a answerSize (flatMap rowBytes (rowsAfter q (itemsOf r) (cellRuns current t))))
+      (length (rowsAfter q (itemsOf r) (cellRuns current t))) (placesPerCell * mostCells) (length t) (length a) t a headerSize answerSize 0 cells
   unfolding tableAfter rowsAfter roomFor
   begin =
-      let call = call-accepted t r (length a) accepted in
-      let legal = table-accepted t (call .table) in
+      let call = call-accepted current t r (length a) accepted in
+      let legal = table-accepted current t (call .table) in
       let k = rowsPerCell (q .kind) in
       let kind : rowsPerCell (requestOf r .kind) ≡ k = ap (λ (x : Request). rowsPerCell (x .kind)) (sym request) in
       let room : answerSize + rowSize * k * cells ≤ length a = rw (n, ← kind) (call .enough) in
@@ -97,7 +97,7 @@ module _ (t : List ℕ) (cells : ℕ) (r : List ℕ) (q : Request) (a : List ℕ
 
 module _ (q : Request) (items T A : List ℕ) (R most lt la : ℕ) (t a : List ℕ) (at out rows left : ℕ) (go : GoingOn q items T A R most lt la t a at out rows left) (some : 0 < left) where
   -- what the cell's routine asks
-  pub asked : (k m : ℕ) → k ≡ cellSize → m ≡ length a - out → Ready (midOf at k t) (midOf out m a) (rowsPerCell (q .kind))
+  pub asked : (k m : ℕ) → k ≡ cellSize current → m ≡ length a - out → Ready (midOf at k t) (midOf out m a) (rowsPerCell (q .kind))
   asked k m ek em =
       let long : m ≤ length (drop out a) = rw length-drop (omega arith) in
       rw ek
@@ -108,35 +108,35 @@ module _ (q : Request) (items T A : List ℕ) (R most lt la : ℕ) (t a : List �
       })
 
   -- a cell that is not reached
-  pub passed : reaches (q .area) items (cellOf (take cellSize (drop at t)) .head) ≡ false → GoingOn q items T A R most lt la t a (at + cellSize) out rows (left - 1)
+  pub passed : reaches (q .area) items (cellOf current (take (cellSize current) (drop at t)) .head) ≡ false → GoingOn q items T A R most lt la t a (at + cellSize current) out rows (left - 1)
   passed e =
-      let h = after-unreached q items (take cellSize (drop at t)) e in
+      let h = after-unreached q items (take (cellSize current) (drop at t)) e in
       skip _ _ _ _ _ _ _ _ _ _ _ _ _ _ _ go some (h .0) (h .1)
 
   -- a cell that is reached, as its routine leaves it
-  stepped-here : reaches (q .area) items (cellOf (take cellSize (drop at t)) .head) ≡ true → (m : ℕ) → m ≡ length a - out → (c′ o′ : List ℕ) (n : ℕ)
-      → Stepped (inCell q (livePlaces (midOf at cellSize t))) (midOf at cellSize t) (midOf out m a) c′ o′ (rowsPerCell (q .kind)) n → length c′ ≡ length (midOf at cellSize t)
-      → GoingOn q items T A R most lt la (putMid at cellSize t c′) (putMid out m a o′) (at + cellSize) (out + rowSize * n) (rows + n) (left - 1)
+  stepped-here : reaches (q .area) items (cellOf current (take (cellSize current) (drop at t)) .head) ≡ true → (m : ℕ) → m ≡ length a - out → (c′ o′ : List ℕ) (n : ℕ)
+      → Stepped (inCell q (livePlaces (midOf at (cellSize current) t))) (midOf at (cellSize current) t) (midOf out m a) c′ o′ (rowsPerCell (q .kind)) n → length c′ ≡ length (midOf at (cellSize current) t)
+      → GoingOn q items T A R most lt la (putMid at (cellSize current) t c′) (putMid out m a o′) (at + cellSize current) (out + rowSize * n) (rows + n) (left - 1)
   stepped-here e m em c′ o′ n s same =
-      let c : List ℕ = take cellSize (drop at t) in
+      let c : List ℕ = take (cellSize current) (drop at t) in
       let b : Bytes c = cell-bytes _ _ _ _ _ _ _ _ _ _ _ _ _ _ _ go some in
-      let long : length c ≡ cellSize = cell-long _ _ _ _ _ _ _ _ _ _ _ _ _ _ _ go some in
-      let l : legalCell c ≡ true = cell-legal _ _ _ _ _ _ _ _ _ _ _ _ _ _ _ go some in
-      let new : c′ ≡ cellAfter q items c = s .cell ∙ sym (after-reached q items c b long l e) in
-      let told : o′ ≡ sets (midOf out m a) 0 (flatMap rowBytes (cellRows q items (cellOf c))) =
+      let long : length c ≡ cellSize current = cell-long _ _ _ _ _ _ _ _ _ _ _ _ _ _ _ go some in
+      let l : legalCell current c ≡ true = cell-legal _ _ _ _ _ _ _ _ _ _ _ _ _ _ _ go some in
+      let new : c′ ≡ cellAfter current q items c = s .cell ∙ sym (after-reached q items c b long l e) in
+      let told : o′ ≡ sets (midOf out m a) 0 (flatMap rowBytes (cellRows q items (cellOf current c))) =
       s .rows ∙ ap (sets (midOf out m a) 0) (sym (rows-of-reached q items c b long l e)) in
       rw told
       (step-cell _ _ _ _ _ _ _ _ _ _ _ _ _ _ _ go some m em c′ n new (same ∙ long) (s .many ∙ sym (count-of-reached q items c b long l e)) (s .few))
 
-  pub stepped : reaches (q .area) items (cellOf (take cellSize (drop at t)) .head) ≡ true → (k m : ℕ) → k ≡ cellSize → m ≡ length a - out
+  pub stepped : reaches (q .area) items (cellOf current (take (cellSize current) (drop at t)) .head) ≡ true → (k m : ℕ) → k ≡ cellSize current → m ≡ length a - out
       → (c′ o′ : List ℕ) (n : ℕ) → Stepped (inCell q (livePlaces (midOf at k t))) (midOf at k t) (midOf out m a) c′ o′ (rowsPerCell (q .kind)) n → length c′ ≡ length (midOf at k t)
-      → GoingOn q items T A R most lt la (putMid at k t c′) (putMid out m a o′) (at + cellSize) (out + rowSize * n) (rows + n) (left - 1)
+      → GoingOn q items T A R most lt la (putMid at k t c′) (putMid out m a o′) (at + cellSize current) (out + rowSize * n) (rows + n) (left - 1)
   stepped e k m ek em c′ o′ n s same = rw ek (stepped-here e m em c′ o′ n (rw ek at s) (rw ek at same))
 
   -- the same without a row
-  pub stepped-silent : reaches (q .area) items (cellOf (take cellSize (drop at t)) .head) ≡ true → (k m : ℕ) → k ≡ cellSize → m ≡ length a - out
+  pub stepped-silent : reaches (q .area) items (cellOf current (take (cellSize current) (drop at t)) .head) ≡ true → (k m : ℕ) → k ≡ cellSize current → m ≡ length a - out
       → (c′ o′ : List ℕ) (n : ℕ) → Stepped (inCell q (livePlaces (midOf at k t))) (midOf at k t) (midOf out m a) c′ o′ (rowsPerCell (q .kind)) n → length c′ ≡ length (midOf at k t)
-      → n ≤ 0 → GoingOn q items T A R most lt la (putMid at k t c′) (putMid out m a o′) (at + cellSize) out rows (left - 1)
+      → n ≤ 0 → GoingOn q items T A R most lt la (putMid at k t c′) (putMid out m a o′) (at + cellSize current) out rows (left - 1)
   stepped-silent e k m ek em c′ o′ n s same z =
       let eo : out + rowSize * n ≡ out = omega arith in
       let er : rows + n ≡ rows = omega arith in
@@ -147,7 +147,7 @@ module _ (q : Request) (items T A : List ℕ) (R most lt la : ℕ) (t a : List �
 pub items-span : (t : List ℕ) (cells : ℕ) (r : List ℕ) (items : ℕ) (q : Request) (new a : List ℕ) → WalkIn t cells r items q new a
     → recordSize + itemSize * items ≡ length r
 items-span t cells r items q new a w =
-    rw (w .all-items) (sym (record-accepted r (call-accepted t r (length a) (w .accepted) .req) .size))
+    rw (w .all-items) (sym (record-accepted current r (call-accepted current t r (length a) (w .accepted) .req) .size))
 
 -- as many of them are there as are looked through
 pub search-span : (t : List ℕ) (cells : ℕ) (r : List ℕ) (items : ℕ) (q : Request) (new a : List ℕ) → WalkIn t cells r items q new a → (b : Bool) (todo : ℕ) → todo ≡ cond b 0 items
@@ -157,9 +157,9 @@ search-span t cells r items q new a w b todo e =
     rw e (cond-either (λ (n : ℕ). recordSize + itemSize * n ≤ length r) b 0 items (λ _. omega (arith, span)) (λ _. omega (arith, span)))
 
 -- what names the cell that was lent
-pub named-here : (t : List ℕ) (at k area : ℕ) (s : Naming) → k ≡ cellSize
+pub named-here : (t : List ℕ) (at k area : ℕ) (s : Naming) → k ≡ cellSize current
     → ((x : ℕ) → namedBy s x ≡ cond (eqb area noArea) false (names area (headOf (take headSize (midOf at k t))) x))
-    → (x : ℕ) → eqb area noArea ≡ false → namedBy s x ≡ names area (cellOf (take cellSize (drop at t)) .head) x
+    → (x : ℕ) → eqb area noArea ≡ false → namedBy s x ≡ names area (cellOf current (take (cellSize current) (drop at t)) .head) x
 unfolding cellOf
 named-here t at k area s ek h x e = h x ∙ rw (e, ek)
 
@@ -178,9 +178,9 @@ second-area q e k =
     by-test (eqb (q .area) noArea) (eqb-true (q .area) noArea) (λ n. absurd (false≢true (rw n at area)))
 
 -- an accepted second reaches every cell
-pub second-reaches : (t : List ℕ) (cells : ℕ) (r a : List ℕ) → SecondIn t cells r a → (c : List ℕ) → reaches (requestOf r .area) (itemsOf r) (cellOf c .head) ≡ true
+pub second-reaches : (t : List ℕ) (cells : ℕ) (r a : List ℕ) → SecondIn t cells r a → (c : List ℕ) → reaches (requestOf r .area) (itemsOf r) (cellOf current c .head) ≡ true
 unfolding reaches
 second-reaches t cells r a w c =
-    let record-fine = record-accepted r (call-accepted t r (length a) (w .accepted) .req) in
-    let allowed = request-accepted (requestOf r) (itemsOf r) (record-fine .request) in
+    let record-fine = record-accepted current r (call-accepted current t r (length a) (w .accepted) .req) in
+    let allowed = request-accepted _ (requestOf r) (itemsOf r) (record-fine .request) in
     rw (second-area (requestOf r) (allowed .kind) (w .second))

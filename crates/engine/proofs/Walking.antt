@@ -1,9 +1,9 @@
 -- The walk over the cells, as pure mathematics: what holds between two cells, and that a cell passed, changed or not, keeps it.
 -- The goal is fixed; what holds is that the work done, with what the rules say of the cells still to come, is the goal.
 use mathlib.Core.Path.{_≡_, refl, sym, ap, _∙_}
-use mathlib.Core.Bool.{Bool, true, _&&_}
+use mathlib.Core.Bool.{true}
 use mathlib.Core.List.{List, [], _∷_, _++_, flatMap, append-assoc, append-nil}
-use Prim.Native.Nat.{ℕ, zero, suc, _+_, _*_, _-_, _<_, _≤_}
+use Prim.Native.Nat.{ℕ, suc, _+_, _*_, _-_, _<_, _≤_}
 use native.Mathlib.Nat.{mul-suc, add-zero, zero-add}
 use native.Mathlib.Omega.{arith}
 use borrow.Rule.Slice.PartMut.{putMid, midOf, same-len-mid}
@@ -13,7 +13,7 @@ use Rattle.octets.specs.Runs.{Bytes, pieces}
 use Rattle.octets.proofs.PiecesLaws.{pieces-more}
 use Rattle.octets.proofs.RunsLaws.{sets-run, length-flatMap, bytes-drop, bytes-take}
 use Rattle.rules.specs.Lists.{every}
-use Rattle.rules.specs.Layout.{cellSize, rowSize, answerSize, headerSize}
+use Rattle.rules.specs.Layout.{current, cellSize, rowSize, answerSize}
 use Rattle.rules.specs.Table.{legalCell}
 use Rattle.rules.specs.Answer.{Row, rowBytes}
 use Rattle.rules.proofs.ListsLaws.{both}
@@ -56,17 +56,17 @@ flat-append f (x ∷ xs) ys = rw (flat-append f xs ys, append-assoc)
 -- f gives a cell's bytes afterwards, g its rows, at most `per` of them
 module _ (f : List ℕ → List ℕ) (g : List ℕ → List Row) (per : ℕ) where
   pub record Going (T A : List ℕ) (R most lt la : ℕ) (t a : List ℕ) (at out rows left : ℕ) : Type 0 where
-    pub size : at + cellSize * left ≡ length t
+    pub size : at + cellSize current * left ≡ length t
     pub bytes : Bytes (drop at t)
-    pub fine : every legalCell (pieces cellSize left (drop at t)) ≡ true
+    pub fine : every (legalCell current) (pieces (cellSize current) left (drop at t)) ≡ true
     pub place : out ≡ answerSize + rowSize * rows
     pub room : out + rowSize * (per * left) ≤ length a
     pub few : rows + per * left ≤ most
     pub same-t : length t ≡ lt
     pub same-a : length a ≡ la
-    pub table : T ≡ take at t ++ flatMap f (pieces cellSize left (drop at t))
-    pub count : R ≡ rows + length (flatMap g (pieces cellSize left (drop at t)))
-    pub answer : A ≡ sets a out (flatMap rowBytes (flatMap g (pieces cellSize left (drop at t))))
+    pub table : T ≡ take at t ++ flatMap f (pieces (cellSize current) left (drop at t))
+    pub count : R ≡ rows + length (flatMap g (pieces (cellSize current) left (drop at t)))
+    pub answer : A ≡ sets a out (flatMap rowBytes (flatMap g (pieces (cellSize current) left (drop at t))))
 
   module _ (T A : List ℕ) (R most lt la : ℕ) (t a : List ℕ) (at out rows left : ℕ) (go : Going T A R most lt la t a at out rows left) where
     -- the walk is over
@@ -87,22 +87,22 @@ module _ (f : List ℕ → List ℕ) (g : List ℕ → List Row) (per : ℕ) whe
     module _ (some : 0 < left) where
       -- the cell that the walk has come to
       pub here : List ℕ
-      here = take cellSize (drop at t)
+      here = take (cellSize current) (drop at t)
 
-      next : pieces cellSize left (drop at t) ≡ take cellSize (drop at t) ∷ pieces cellSize (left - 1) (drop (at + cellSize) t)
-      next = pieces-more cellSize left at t some
+      next : pieces (cellSize current) left (drop at t) ≡ take (cellSize current) (drop at t) ∷ pieces (cellSize current) (left - 1) (drop (at + cellSize current) t)
+      next = pieces-more (cellSize current) left at t some
 
-      cell-fine : (legalCell (take cellSize (drop at t)) ≡ true) × (every legalCell (pieces cellSize (left - 1) (drop (at + cellSize) t)) ≡ true)
+      cell-fine : (legalCell current (take (cellSize current) (drop at t)) ≡ true) × (every (legalCell current) (pieces (cellSize current) (left - 1) (drop (at + cellSize current) t)) ≡ true)
       unfolding every
-      cell-fine = both (legalCell (take cellSize (drop at t))) _ (rw next at (go .fine))
+      cell-fine = both (legalCell current (take (cellSize current) (drop at t))) _ (rw next at (go .fine))
 
-      pub cell-long : length (take cellSize (drop at t)) ≡ cellSize
-      cell-long = length-take-le cellSize (drop at t) (rw length-drop (omega (arith, go .size)))
+      pub cell-long : length (take (cellSize current) (drop at t)) ≡ cellSize current
+      cell-long = length-take-le (cellSize current) (drop at t) (rw length-drop (omega (arith, go .size)))
 
-      pub cell-bytes : Bytes (take cellSize (drop at t))
-      cell-bytes = bytes-take cellSize (drop at t) (go .bytes)
+      pub cell-bytes : Bytes (take (cellSize current) (drop at t))
+      cell-bytes = bytes-take (cellSize current) (drop at t) (go .bytes)
 
-      pub cell-legal : legalCell (take cellSize (drop at t)) ≡ true
+      pub cell-legal : legalCell current (take (cellSize current) (drop at t)) ≡ true
       cell-legal = cell-fine .0
 
       -- one cell's rows of the room that is left
@@ -115,12 +115,12 @@ module _ (f : List ℕ → List ℕ) (g : List ℕ → List Row) (per : ℕ) whe
       pub few-here : rows + per ≤ most
       few-here = omega (arith, go .few, one-less)
 
-      rest-bytes : Bytes (drop (at + cellSize) t)
-      rest-bytes = rw drop-drop at (bytes-drop cellSize (drop at t) (go .bytes))
+      rest-bytes : Bytes (drop (at + cellSize current) t)
+      rest-bytes = rw drop-drop at (bytes-drop (cellSize current) (drop at t) (go .bytes))
 
       -- a cell that is not reached
-      pub skip : f (take cellSize (drop at t)) ≡ take cellSize (drop at t) → g (take cellSize (drop at t)) ≡ []
-          → Going T A R most lt la t a (at + cellSize) out rows (left - 1)
+      pub skip : f (take (cellSize current) (drop at t)) ≡ take (cellSize current) (drop at t) → g (take (cellSize current) (drop at t)) ≡ []
+          → Going T A R most lt la t a (at + cellSize current) out rows (left - 1)
       skip same none =
           record {
             size = omega (arith, go .size);
@@ -131,24 +131,24 @@ module _ (f : List ℕ → List ℕ) (g : List ℕ → List Row) (per : ℕ) whe
             few = omega (arith, go .few, one-less);
             same-t = go .same-t;
             same-a = go .same-a;
-            table = go .table ∙ rw (next, flat-cons, same, ← append-assoc, take-add at cellSize t);
+            table = go .table ∙ rw (next, flat-cons, same, ← append-assoc, take-add at (cellSize current) t);
             count = go .count ∙ rw (next, flat-cons, none);
             answer = go .answer ∙ rw (next, flat-cons, none);
           }
 
       -- a cell that is reached: its part of the table comes back changed, and the rest of the answer with its rows
-      pub step-cell : (m : ℕ) → m ≡ length a - out → (c′ : List ℕ) (n : ℕ) → c′ ≡ f (take cellSize (drop at t)) → length c′ ≡ cellSize
-          → n ≡ length (g (take cellSize (drop at t))) → n ≤ per
-          → Going T A R most lt la (putMid at cellSize t c′) (putMid out m a (sets (midOf out m a) 0 (flatMap rowBytes (g (take cellSize (drop at t)))))) (at + cellSize) (out + rowSize * n) (rows + n) (left - 1)
+      pub step-cell : (m : ℕ) → m ≡ length a - out → (c′ : List ℕ) (n : ℕ) → c′ ≡ f (take (cellSize current) (drop at t)) → length c′ ≡ cellSize current
+          → n ≡ length (g (take (cellSize current) (drop at t))) → n ≤ per
+          → Going T A R most lt la (putMid at (cellSize current) t c′) (putMid out m a (sets (midOf out m a) 0 (flatMap rowBytes (g (take (cellSize current) (drop at t)))))) (at + cellSize current) (out + rowSize * n) (rows + n) (left - 1)
       step-cell m em c′ n new long many few =
-          let fits : at + cellSize ≤ length t = omega (arith, go .size) in
-          let rs : List Row = g (take cellSize (drop at t)) in
+          let fits : at + cellSize current ≤ length t = omega (arith, go .size) in
+          let rs : List Row = g (take (cellSize current) (drop at t)) in
           let ln : length (flatMap rowBytes rs) ≡ rowSize * n = rw many (length-flatMap rowSize rowBytes rs length-rowBytes) in
           let fits-a : out + length (flatMap rowBytes rs) ≤ length a = omega (arith, room-here) in
           let ea : putMid out m a (sets (midOf out m a) 0 (flatMap rowBytes rs)) ≡ sets a out (flatMap rowBytes rs) = lent-sets a (flatMap rowBytes rs) out m fits-a em in
-          let ed : drop (at + cellSize) (putMid at cellSize t c′) ≡ drop (at + cellSize) t = lent-drop t c′ at cellSize fits long in
-          let et : take (at + cellSize) (putMid at cellSize t c′) ≡ take at t ++ c′ = lent-take t c′ at cellSize fits long in
-          let kt : length (putMid at cellSize t c′) ≡ length t = same-len-mid at cellSize t c′ (long ∙ sym cell-long) in
+          let ed : drop (at + cellSize current) (putMid at (cellSize current) t c′) ≡ drop (at + cellSize current) t = lent-drop t c′ at (cellSize current) fits long in
+          let et : take (at + cellSize current) (putMid at (cellSize current) t c′) ≡ take at t ++ c′ = lent-take t c′ at (cellSize current) fits long in
+          let kt : length (putMid at (cellSize current) t c′) ≡ length t = same-len-mid at (cellSize current) t c′ (long ∙ sym cell-long) in
           let ka : length (sets a out (flatMap rowBytes rs)) ≡ length a = length-sets a out (flatMap rowBytes rs) in
           rw ea
           (record {

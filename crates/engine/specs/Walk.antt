@@ -6,7 +6,7 @@ use Prim.Native.Nat.{ℕ, _+_, _*_, _≤_}
 use lib.Dec.{eqb}
 use lib.ListN.{length, take}
 use lib.Seq.{sets}
-use Rattle.rules.specs.Layout.{headerSize, answerSize, rowSize, placesPerCell, mostCells}
+use Rattle.rules.specs.Layout.{current, headerSize, answerSize, rowSize, placesPerCell, mostCells}
 use Rattle.rules.specs.Table.{cellOf, cellCount, cellRuns}
 use Rattle.rules.specs.Record.{writeReplace, oneSecond, requestOf, itemCount, itemsOf}
 use Rattle.rules.specs.InCell.{startsNothing}
@@ -19,15 +19,15 @@ use Rattle.routines.specs.Step.{ToStep}
 
 -- the rows of all cells, in order
 unfoldable pub rowsAfter : Request → List ℕ → List (List ℕ) → List Row
-rowsAfter q items runs = flatMap (λ c. cellRows q items (cellOf c)) runs
+rowsAfter q items runs = flatMap (λ c. cellRows q items (cellOf current c)) runs
 
 -- the table, cell by cell
 unfoldable pub tableAfter : Request → List ℕ → List ℕ → List (List ℕ) → List ℕ
-tableAfter q items t runs = take headerSize t ++ flatMap (cellAfter q items) runs
+tableAfter q items t runs = take headerSize t ++ flatMap (cellAfter current q items) runs
 
 -- an accepted call, no start that the zero rules stop, with the bytes of the new place made once
 pub record WalkIn (t : List ℕ) (cells : ℕ) (r : List ℕ) (items : ℕ) (q : Request) (new a : List ℕ) : Type 0 where
-  pub accepted : applyVerdict t r (length a) ≡ Accepted
+  pub accepted : applyVerdict current t r (length a) ≡ Accepted
   pub all-cells : cells ≡ cellCount t
   pub all-items : items ≡ itemCount r
   pub request : q ≡ requestOf r
@@ -35,14 +35,14 @@ pub record WalkIn (t : List ℕ) (cells : ℕ) (r : List ℕ) (items : ℕ) (q :
 
 -- an accepted second
 pub record SecondIn (t : List ℕ) (cells : ℕ) (r a : List ℕ) : Type 0 where
-  pub accepted : applyVerdict t r (length a) ≡ Accepted
+  pub accepted : applyVerdict current t r (length a) ≡ Accepted
   pub all-cells : cells ≡ cellCount t
   pub second : requestOf r .kind ≡ oneSecond
 
 pub record WalkOut (t r : List ℕ) (q : Request) (a t′ a′ : List ℕ) (n : ℕ) : Type 0 where
-  pub table : t′ ≡ tableAfter q (itemsOf r) t (cellRuns t)
-  pub rows : n ≡ length (rowsAfter q (itemsOf r) (cellRuns t))
-  pub out : a′ ≡ sets a answerSize (flatMap rowBytes (rowsAfter q (itemsOf r) (cellRuns t)))
+  pub table : t′ ≡ tableAfter q (itemsOf r) t (cellRuns current t)
+  pub rows : n ≡ length (rowsAfter q (itemsOf r) (cellRuns current t))
+  pub out : a′ ≡ sets a answerSize (flatMap rowBytes (rowsAfter q (itemsOf r) (cellRuns current t)))
   pub few : n ≤ placesPerCell * mostCells
 
 -- a start that the zero rules stop
@@ -51,7 +51,7 @@ isIdle q = eqb (q .kind) writeReplace && startsNothing q
 
 -- what an accepted call leaves: all but the number of its outcome
 pub record Granted (t r a t′ a′ : List ℕ) (n : ℕ) : Type 0 where
-  pub table : t′ ≡ applied t r a .table
-  pub answer : a′ ≡ applied t r a .answer
-  pub rows : answerSize + rowSize * n ≡ applied t r a .length
+  pub table : t′ ≡ applied current t r a .table
+  pub answer : a′ ≡ applied current t r a .answer
+  pub rows : answerSize + rowSize * n ≡ applied current t r a .length
   pub few : n ≤ placesPerCell * mostCells

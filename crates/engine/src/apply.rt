@@ -1,9 +1,8 @@
 // One request applied to one table: the tests 1 to 8, the walk, the answer's head.
 ghost use mathlib.Core.Path.{_≡_};
-ghost use mathlib.Core.List.{[]};
 ghost use Prim.Native.Nat.{_≤_};
 ghost use lib.ListN.{length};
-ghost use Rattle.rules.specs.Layout.{headerSize};
+ghost use Rattle.rules.specs.Layout.{current, headerSize};
 ghost use Rattle.rules.specs.Table.{cellCount};
 ghost use Rattle.rules.specs.Answer.{roomFor};
 ghost use Rattle.rules.specs.Refusals.{applyVerdict};
@@ -48,7 +47,7 @@ fn room_for(kind: u8, cells: usize) -> usize
 
 // The first of the refusals 1 to 8 that applies.
 fn verdict(table: &[u8], req: &[u8], room: usize) -> Verdict
-    ensures { λ r. ⌜ r ≡ applyVerdict (now (table .entry)) (now (req .entry)) room ⌝ }
+    ensures { λ r. ⌜ r ≡ applyVerdict current (now (table .entry)) (now (req .entry)) room ⌝ }
 {
     if let Verdict::Refused(refusal) = table::verdict(table) {
         return Verdict::Refused(refusal);
@@ -75,7 +74,7 @@ fn idle(request: Request) -> bool
 
 // An accepted request: the number of rows. A start that the zero rules stop changes no cell.
 fn grant(table: &mut [u8], req: &[u8], answer: &mut [u8]) -> usize
-    requires { ⌜ applyVerdict (now table) (now req) (length (now answer)) ≡ Accepted ⌝ }
+    requires { ⌜ applyVerdict current (now table) (now req) (length (now answer)) ≡ Accepted ⌝ }
     ensures { λ r. ⌜ Granted (now (table .entry)) (now (req .entry)) (now (answer .entry)) (now (table .exit)) (now (answer .exit)) r ⌝ }
 {
     let fields = request(req);
@@ -98,7 +97,7 @@ fn grant(table: &mut [u8], req: &[u8], answer: &mut [u8]) -> usize
 }
 
 pub fn apply(table: &mut [u8], req: &[u8], answer: &mut [u8]) -> Answer
-    ensures { λ r. ⌜ outcomeBy r (now (table .exit)) (now (answer .exit)) ≡ applied (now (table .entry)) (now (req .entry)) (now (answer .entry)) ⌝ }
+    ensures { λ r. ⌜ outcomeBy r (now (table .exit)) (now (answer .exit)) ≡ applied current (now (table .entry)) (now (req .entry)) (now (answer .entry)) ⌝ }
 {
     if let Verdict::Refused(refusal) = verdict(table, req, answer.len()) {
         return Answer::Nothing(refusal);

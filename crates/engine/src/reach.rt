@@ -7,7 +7,7 @@ ghost use lib.ListN.{length, take};
 ghost use Rattle.octets.specs.Runs.{gets};
 ghost use Rattle.octets.specs.Numbers.{be};
 ghost use Rattle.rules.specs.Lists.{any, oneOf};
-ghost use Rattle.rules.specs.Layout.{cellSize, headSize, itemSize};
+ghost use Rattle.rules.specs.Layout.{current, cellSize, headSize, itemSize};
 ghost use Rattle.rules.specs.Table.{headOf};
 ghost use Rattle.rules.specs.Record.{noArea};
 ghost use Rattle.rules.specs.Reach.{names};
@@ -77,7 +77,7 @@ fn several(areas: Areas) -> Naming
 
 // Without an area no key is asked for.
 pub fn naming_of(cell: &[u8], area: u8) -> Naming
-    requires { ⌜ length (now cell) ≡ cellSize ⌝ }
+    requires { ⌜ length (now cell) ≡ cellSize current ⌝ }
     ensures { λ r. ⌜ ((x : ℕ) → namedBy r x ≡ cond (eqb area noArea) false (names area (headOf (take headSize (now (cell .entry)))) x)) ⌝ }
 {
     if area == NO_AREA {

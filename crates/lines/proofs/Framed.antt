@@ -1,29 +1,28 @@
 -- Framing does not depend on how the input comes: a record that is taken is the one that the whole input has there.
 -- And a record that the end of the input cuts off is the last: the reader gives 3 or 4 for what is there, and both stop the program.
 -- The first 26 bytes settle a record's size; what is shorter than its own size is refused by its mark or its length.
-use mathlib.Core.Path.{_≡_, refl, sym, ap, _∙_}
+use mathlib.Core.Path.{_≡_, refl, sym, _∙_}
 use mathlib.Core.Bool.{Bool, true, false, _&&_, false≢true}
 use mathlib.Core.List.{List, _++_}
 use Prim.Native.Nat.{ℕ, _+_, _*_, _≤_, _<_}
 use native.Mathlib.Omega.{arith}
 use lib.Dec.{eqb, leb}
-use lib.ListN.{length, take, getD, length-append}
+use lib.ListN.{length, take, length-append}
 use lib.Seq.{take-all, take-append-le}
-use borrow.Author.Tests.{leb-true, leb-false, le-leb, lt-leb, eqb-true}
+use borrow.Author.Tests.{leb-true, le-leb, eqb-true}
 use Rattle.octets.proofs.FieldsLaws.{numbers-append}
-use Rattle.rules.specs.Layout.{field, recordFields, recordSize, recordMark, recordVersion, itemSize, mostItems}
+use Rattle.rules.specs.Layout.{current, versionNumber, field, recordFields, recordSize, recordMark, itemSize, mostItems}
 use Rattle.rules.specs.Table.{tableMarked, legalTable}
-use Rattle.rules.specs.Record.{requestOf, itemCount, itemsOf, recordMarked}
+use Rattle.rules.specs.Record.{versionIn, takes, requestOf, itemCount, itemsOf, recordMarked}
 use Rattle.rules.specs.Refusals.{verdictNumber, _then_, tableVerdict, recordVerdict, applyVerdict}
 use Rattle.rules.specs.Applied.{outcome, applied}
 use Rattle.rules.specs.declared.Request.{Request}
 use Rattle.rules.specs.declared.Verdict.{Verdict}
 use Rattle.rules.specs.declared.Verdict.the-variants.{Accepted, Refused}
-use Rattle.rules.specs.declared.Refusal.the-variants.{RecordMark, RecordLength}
 use Rattle.rules.proofs.LayoutLaws.{record-size}
 use Rattle.rules.proofs.ListsLaws.{both, by-test}
 use Rattle.lines.specs.Framing.{ownSize, frameOf, stopsAt}
-use Rattle.lines.proofs.FrameLaws.{own-cut, own-many, own-whole, frame-whole, frame-cut}
+use Rattle.lines.proofs.FrameLaws.{own-whole, frame-whole, frame-cut}
 
 -- ---- more input changes nothing
 
@@ -68,7 +67,7 @@ stops-3 : stopsAt 3 ≡ true
 unfolding stopsAt
 stops-3 = refl
 
-number-of : (v : Verdict) (q : Request) (items t a : List ℕ) → outcome v q items t a .number ≡ verdictNumber v
+number-of : (v : Verdict) (q : Request) (items t a : List ℕ) → outcome current v q items t a .number ≡ verdictNumber v
 unfolding outcome
 number-of Accepted q items t a = refl
 number-of (Refused x) q items t a = refl
@@ -80,27 +79,27 @@ stays-stopped Accepted w e = absurd (false≢true e)
 stays-stopped (Refused x) w e = e
 
 -- and behind the tests of a table, of which each stops it too
-table-stops : (t : List ℕ) (w : Verdict) → stopsAt (verdictNumber w) ≡ true → stopsAt (verdictNumber (tableVerdict t then w)) ≡ true
+table-stops : (t : List ℕ) (w : Verdict) → stopsAt (verdictNumber w) ≡ true → stopsAt (verdictNumber (tableVerdict current t then w)) ≡ true
 unfolding tableVerdict stopsAt
 table-stops t w e =
-    by-test (tableMarked t)
-    (λ (m : tableMarked t ≡ true). by-test (legalTable t) (λ (g : legalTable t ≡ true). rw (m, g) e) (λ (g : legalTable t ≡ false). rw (m, g)))
-    (λ (m : tableMarked t ≡ false). rw m)
+    by-test (tableMarked (versionNumber current) t)
+    (λ (m : tableMarked (versionNumber current) t ≡ true). by-test (legalTable current t) (λ (g : legalTable current t ≡ true). rw (m, g) e) (λ (g : legalTable current t ≡ false). rw (m, g)))
+    (λ (m : tableMarked (versionNumber current) t ≡ false). rw m)
 
 stops-4 : stopsAt 4 ≡ true
 unfolding stopsAt
 stops-4 = refl
 
-long-marked : (l : List ℕ) → recordMarked l ≡ true → recordSize ≤ length l
+long-marked : (l : List ℕ) → recordMarked current l ≡ true → recordSize ≤ length l
 unfolding recordMarked
 long-marked l e =
-    let m = both (leb recordSize (length l) && eqb (field recordFields 0 l) recordMark) (eqb (field recordFields 1 l) recordVersion) e in
+    let m = both (leb recordSize (length l) && eqb (field recordFields 0 l) recordMark) (takes current (versionIn l)) e in
     leb-true recordSize (length l) (both (leb recordSize (length l)) (eqb (field recordFields 0 l) recordMark) (m .0) .0)
 
 -- what is shorter than its own size is refused by its mark or its length
-pub cut-refused : (l : List ℕ) → length l < ownSize l → stopsAt (verdictNumber (recordVerdict l)) ≡ true
+pub cut-refused : (l : List ℕ) → length l < ownSize l → stopsAt (verdictNumber (recordVerdict current l)) ≡ true
 unfolding recordVerdict
-cut-refused l h = by-test (recordMarked l) marked (λ (e : recordMarked l ≡ false). rw e stops-3)
+cut-refused l h = by-test (recordMarked current l) marked (λ (e : recordMarked current l ≡ false). rw e stops-3)
   where
     sized : Bool
     sized = leb (itemCount l) mostItems && eqb (length l) (recordSize + itemSize * itemCount l)
@@ -111,16 +110,16 @@ cut-refused l h = by-test (recordMarked l) marked (λ (e : recordMarked l ≡ fa
         let o : recordSize + itemSize * itemCount l ≡ ownSize l = own-whole l (itemCount l) k refl (leb-true (itemCount l) mostItems (b .0)) in
         omega (arith, eqb-true (length l) (recordSize + itemSize * itemCount l) (b .1))
 
-    marked : recordMarked l ≡ true → stopsAt (verdictNumber (recordVerdict l)) ≡ true
+    marked : recordMarked current l ≡ true → stopsAt (verdictNumber (recordVerdict current l)) ≡ true
     marked e = by-test sized (λ (s : sized ≡ true). absurd (whole (long-marked l e) s)) (λ (s : sized ≡ false). rw (e, s) stops-4)
 
 -- so the program stops there, whatever its table
-pub cut-stops : (t a l : List ℕ) → length l < ownSize l → stopsAt (applied t (take (frameOf l true) l) a .number) ≡ true
+pub cut-stops : (t a l : List ℕ) → length l < ownSize l → stopsAt (applied current t (take (frameOf l true) l) a .number) ≡ true
 unfolding applied applyVerdict
 cut-stops t a l h =
     rw (
       ← frame-cut l (ownSize l) refl true refl h,
       take-all (length l) l (omega arith),
-      number-of (applyVerdict t l (length a)) (requestOf l) (itemsOf l) t a,
+      number-of (applyVerdict current t l (length a)) (requestOf l) (itemsOf l) t a,
     )
-    (table-stops t _ (stays-stopped (recordVerdict l) _ (cut-refused l h)))
+    (table-stops t _ (stays-stopped (recordVerdict current l) _ (cut-refused l h)))

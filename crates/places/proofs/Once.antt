@@ -4,6 +4,7 @@ use mathlib.Core.Path.{_≡_}
 use mathlib.Core.List.{List}
 use Prim.Native.Nat.{ℕ}
 use Rattle.octets.proofs.Once.{one-outcome}
+use Rattle.rules.specs.Layout.{current}
 use Rattle.rules.specs.declared.Place.{Place}
 use Rattle.rules.specs.Table.{placeBytes}
 use Rattle.cell.specs.Places.{withPlaces}
@@ -13,5 +14,5 @@ pub left-once : (c : List ℕ) (ps : List Place) {a b : List ℕ} → a ≡ with
 left-once c ps = one-outcome
 
 -- `place_bytes` returns the bytes of a place
-pub bytes-once : (p : Place) {a b : List ℕ} → a ≡ placeBytes p → b ≡ placeBytes p → a ≡ b
+pub bytes-once : (p : Place) {a b : List ℕ} → a ≡ placeBytes current p → b ≡ placeBytes current p → a ≡ b
 bytes-once p = one-outcome

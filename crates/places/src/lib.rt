@@ -1,6 +1,5 @@
 // Changes to a cell's places, in place: no byte is written that stays as it is, but for the places that move. And the bytes of a place.
 use cell::read::Counts;
-use octets::get32;
 use octets::get64;
 use octets::put8;
 use octets::put16;
@@ -25,7 +24,7 @@ ghost use Prim.Native.Nat.{_+_, _*_, _≤_, _<_};
 ghost use lib.ListN.{length, set};
 ghost use lib.Seq.{sets};
 ghost use Rattle.octets.specs.Runs.{gets};
-ghost use Rattle.rules.specs.Layout.{headSize, placeSize, placesPerCell, cellSize, longestPeriod};
+ghost use Rattle.rules.specs.Layout.{current, headSize, placeSize, placesPerCell, cellSize};
 ghost use Rattle.rules.specs.Table.{placeOf, placeBytes, freeBytes};
 ghost use Rattle.rules.specs.InCell.{withCounts};
 ghost use Rattle.cell.specs.Places.{livePlaces, withPlaces, placeAt, LiveAt, FreeAt, OnePlace, without};
@@ -42,48 +41,42 @@ const LIVE: u8 = 1;
 struct Words {
     first: u64,
     second: u64,
-    third: u32,
+    third: u64,
 }
 
 fn load(from: &[u8], at: usize) -> Words
-    requires { ⌜ at + placeSize ≤ length (now from) ⌝ }
-    ensures { λ r. ⌜ wordBytes r ≡ gets (now (from .entry)) at placeSize ⌝ }
+    requires { ⌜ at + placeSize current ≤ length (now from) ⌝ }
+    ensures { λ r. ⌜ wordBytes r ≡ gets (now (from .entry)) at (placeSize current) ⌝ }
 {
     Words {
         first: get64(from, at),
         second: get64(from, at + WORD),
-        third: get32(from, at + 2 * WORD),
+        third: get64(from, at + 2 * WORD),
     }
 }
 
 fn store(to: &mut [u8], at: usize, words: Words)
-    requires { ⌜ at + placeSize ≤ length (now to) ⌝ }
+    requires { ⌜ at + placeSize current ≤ length (now to) ⌝ }
     ensures { λ _. ⌜ now (to .exit) ≡ sets (now (to .entry)) at (wordBytes words) ⌝ }
 {
     put64(to, at, words.first);
     put64(to, at + WORD, words.second);
-    put32(to, at + 2 * WORD, words.third);
+    put64(to, at + 2 * WORD, words.third);
 }
 
-// Sent and wait stand side by side, so they are one store.
 pub fn set_counts(cell: &mut [u8], k: usize, counts: Counts)
     requires { ⌜ LiveAt (now cell) k ⌝ }
-    requires { ⌜ counts .wait .0 ≤ longestPeriod ⌝ }
     ensures { λ _. ⌜ now (cell .exit) ≡ withPlaces (now (cell .entry)) (set (livePlaces (now (cell .entry))) k (withCounts (placeAt (now (cell .entry)) k) (counts .sent .0) (counts .wait .0))) ⌝ }
 {
-    put32(
-        cell,
-        HEAD + PLACE * k + SENT_AT,
-        (counts.sent.0 as u32) * 65536 + counts.wait.0,
-    );
+    put16(cell, HEAD + PLACE * k + SENT_AT, counts.sent.0);
+    put32(cell, HEAD + PLACE * k + WAIT_AT, counts.wait.0);
 }
 
 pub fn set_wait(cell: &mut [u8], k: usize, wait: Seconds)
     requires { ⌜ LiveAt (now cell) k ⌝ }
-    requires { ⌜ wait .0 ≤ longestPeriod ⌝ }
     ensures { λ _. ⌜ now (cell .exit) ≡ withPlaces (now (cell .entry)) (set (livePlaces (now (cell .entry))) k (withCounts (placeAt (now (cell .entry)) k) (placeAt (now (cell .entry)) k .sent .0) (wait .0))) ⌝ }
 {
-    put16(cell, HEAD + PLACE * k + WAIT_AT, wait.0 as u16);
+    put32(cell, HEAD + PLACE * k + WAIT_AT, wait.0);
 }
 
 // What is behind it moves down. Free places are zero, so they move like live ones.
@@ -103,8 +96,8 @@ pub fn drop_place(cell: &mut [u8], k: usize)
 
 // The bytes of a free place.
 fn clear(cell: &mut [u8], k: usize)
-    requires { ⌜ (length (now cell) ≡ cellSize) × (k < placesPerCell) ⌝ }
-    ensures { λ _. ⌜ now (cell .exit) ≡ sets (now (cell .entry)) (headSize + placeSize * k) freeBytes ⌝ }
+    requires { ⌜ (length (now cell) ≡ cellSize current) × (k < placesPerCell) ⌝ }
+    ensures { λ _. ⌜ now (cell .exit) ≡ sets (now (cell .entry)) (headSize + placeSize current * k) (freeBytes current) ⌝ }
 {
     let none = Words {
         first: 0,
@@ -115,7 +108,7 @@ fn clear(cell: &mut [u8], k: usize)
 }
 
 pub fn free_all(cell: &mut [u8])
-    requires { ⌜ length (now cell) ≡ cellSize ⌝ }
+    requires { ⌜ length (now cell) ≡ cellSize current ⌝ }
     ensures { λ _. ⌜ now (cell .exit) ≡ withPlaces (now (cell .entry)) [] ⌝ }
 {
     let mut k = 0;
@@ -129,7 +122,7 @@ pub fn free_all(cell: &mut [u8])
 pub fn add_place(cell: &mut [u8], k: usize, new: &[u8])
     requires { ⌜ FreeAt (now cell) k ⌝ }
     requires { ⌜ OnePlace (now new) ⌝ }
-    ensures { λ _. ⌜ now (cell .exit) ≡ withPlaces (now (cell .entry)) (livePlaces (now (cell .entry)) ++ (placeOf (now (new .entry)) ∷ [])) ⌝ }
+    ensures { λ _. ⌜ now (cell .exit) ≡ withPlaces (now (cell .entry)) (livePlaces (now (cell .entry)) ++ (placeOf current (now (new .entry)) ∷ [])) ⌝ }
 {
     let words = load(new, 0);
     store(cell, HEAD + PLACE * k, words);
@@ -137,17 +130,16 @@ pub fn add_place(cell: &mut [u8], k: usize, new: &[u8])
 
 // The bytes of a live place, as `add_place` takes them.
 pub fn place_bytes(place: Place) -> [u8; PLACE]
-    requires { ⌜ (place .period .0 ≤ longestPeriod) × (place .wait .0 ≤ longestPeriod) ⌝ }
-    ensures { λ r. ⌜ r ≡ placeBytes place ⌝ }
+    ensures { λ r. ⌜ r ≡ placeBytes current place ⌝ }
 {
     let mut bytes = [0; PLACE];
     put16(&mut bytes, 0, place.identifier);
     put16(&mut bytes, PLACE_SERIAL_AT, place.serial);
     put32(&mut bytes, CONTENT_AT, place.content);
-    put16(&mut bytes, PERIOD_AT, place.period.0 as u16);
+    put32(&mut bytes, PERIOD_AT, place.period.0);
     put16(&mut bytes, REQUESTED_AT, place.requested.0);
     put16(&mut bytes, SENT_AT, place.sent.0);
-    put16(&mut bytes, WAIT_AT, place.wait.0 as u16);
+    put32(&mut bytes, WAIT_AT, place.wait.0);
     put8(&mut bytes, SIB_AT, place.sib);
     put8(&mut bytes, LIVE_AT, LIVE);
     bytes

@@ -1,6 +1,7 @@
 // The C surface: numbers and byte slices in, numbers out. Each function hands its buffers to the crate that does the work.
 ghost use mathlib.Core.Path.{_≡_};
-ghost use Rattle.rules.specs.Applied.{built, written, readOf, itemAt, applied, noRequest};
+ghost use Rattle.rules.specs.Layout.{current};
+ghost use Rattle.rules.specs.Applied.{built, conversion, written, readOf, itemAt, applied, noRequest};
 ghost use Rattle.segments.specs.Segments.{liesAt, packed};
 ghost use Rattle.pws.specs.Surface.{doneBy, filled, readTo, lies, left};
 use rules::Answer;
@@ -52,8 +53,15 @@ pub extern "C" fn pws_build(heads: &[u8], table: &mut [u8]) -> PwsDone
 }
 
 #[no_mangle]
+pub extern "C" fn pws_convert(old: &[u8], table: &mut [u8]) -> PwsDone
+    ensures { λ r. ⌜ filled r (now (table .exit)) ≡ conversion (now (old .entry)) (now (table .entry)) ⌝ }
+{
+    done(convert::convert(old, table))
+}
+
+#[no_mangle]
 pub extern "C" fn pws_apply(table: &mut [u8], req: &[u8], answer: &mut [u8]) -> PwsDone
-    ensures { λ r. ⌜ left r (now (table .exit)) (now (answer .exit)) ≡ applied (now (table .entry)) (now (req .entry)) (now (answer .entry)) ⌝ }
+    ensures { λ r. ⌜ left r (now (table .exit)) (now (answer .exit)) ≡ applied current (now (table .entry)) (now (req .entry)) (now (answer .entry)) ⌝ }
 {
     done(engine::apply::apply(table, req, answer))
 }

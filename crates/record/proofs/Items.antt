@@ -12,7 +12,7 @@ use borrow.Author.Tests.{le-leb, lt-leb, ltb-true, ltb-false}
 use Rattle.octets.specs.Runs.{gets, pieces}
 use Rattle.octets.specs.Numbers.{be}
 use Rattle.octets.proofs.RunsLaws.{gets-eq, pieces-at}
-use Rattle.rules.specs.Layout.{recordSize, itemSize}
+use Rattle.rules.specs.Layout.{current, recordSize, itemSize}
 use Rattle.rules.specs.Record.{itemCount, itemsOf}
 use Rattle.rules.specs.Refusals.{recordVerdict}
 use Rattle.rules.specs.Applied.{itemAt}
@@ -34,17 +34,17 @@ module _ (r : List ℕ) (k : ℕ) where
 
 -- ---- an accepted record
 
-module _ (r : List ℕ) (a : recordVerdict r ≡ Accepted) (k : ℕ) where
+module _ (r : List ℕ) (a : recordVerdict current r ≡ Accepted) (k : ℕ) where
   pub item-of : k < itemCount r → be (gets r (recordSize + itemSize * k) itemSize) ≡ getD (itemsOf r) k 0
   unfolding itemsOf be
   item-of h =
-      let size : length r ≡ recordSize + itemSize * itemCount r = record-accepted r a .size in
+      let size : length r ≡ recordSize + itemSize * itemCount r = record-accepted current r a .size in
       rw (List·getD-map be (pieces itemSize (itemCount r) (drop recordSize r)) k [], pieces-at itemSize (itemCount r) k (drop recordSize r) h, drop-drop, gets-eq itemSize r (recordSize + itemSize * k) (omega arith))
 
   -- what `item` returns is the record's item number k, and 0 behind the last
   pub itemAt-itemsOf : itemAt r k ≡ getD (itemsOf r) k 0
   itemAt-itemsOf =
-      let size : length r ≡ recordSize + itemSize * itemCount r = record-accepted r a .size in
+      let size : length r ≡ recordSize + itemSize * itemCount r = record-accepted current r a .size in
       let n : length (itemsOf r) ≡ itemCount r = length-itemsOf r in
       by-test (ltb k (itemCount r))
       (λ t. let h : k < itemCount r = ltb-true k (itemCount r) t in sym (item-there r k (omega arith)) ∙ item-of h)

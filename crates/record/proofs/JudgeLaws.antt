@@ -61,31 +61,31 @@ neither-way false b x y e = rw e
 
 -- ---- 5, 6 and 7 in their order
 
-within-each : (q : Request) (items : List ℕ) → withinLimits q items ≡ withinLimits q [] && every (λ x. ltb x (itemEnd (q .area))) items
+within-each : (longest : ℕ) (q : Request) (items : List ℕ) → withinLimits longest q items ≡ withinLimits longest q [] && every (λ x. ltb x (itemEnd (q .area))) items
 unfolding withinLimits every
-within-each q items = simp and-true
+within-each longest q items = simp and-true
 
--- of a request with n items
-module _ (q : Request) (items : List ℕ) {n : ℕ} (e : length items ≡ n) {kind area : Bool} (k : kind ≡ kindAllows q) (a : area ≡ areaFits q n) where
-  pub fields-refused : not (kind && area) ≡ true → Refused RecordFields ≡ requestVerdict q items
+-- of a request with n items, under a longest period
+module _ (longest : ℕ) (q : Request) (items : List ℕ) {n : ℕ} (e : length items ≡ n) {kind area : Bool} (k : kind ≡ kindAllows q) (a : area ≡ areaFits q n) where
+  pub fields-refused : not (kind && area) ≡ true → Refused RecordFields ≡ requestVerdict longest q items
   unfolding requestVerdict
   fields-refused t = rw (e, ← k, ← a, not-true (kind && area) t)
 
-  module _ (fields : not (kind && area) ≡ false) {text : Bool} (w : text ≡ withinLimits q []) where
-    pub text-refused : not text ≡ true → Refused RecordLimits ≡ requestVerdict q items
+  module _ (fields : not (kind && area) ≡ false) {text : Bool} (w : text ≡ withinLimits longest q []) where
+    pub text-refused : not text ≡ true → Refused RecordLimits ≡ requestVerdict longest q items
     unfolding requestVerdict
-    text-refused t = rw (e, ← k, ← a, not-false (kind && area) fields, within-each q items, ← w, not-true text t)
+    text-refused t = rw (e, ← k, ← a, not-false (kind && area) fields, within-each longest q items, ← w, not-true text t)
 
     module _ (within : not text ≡ false) {small : Bool} (s : small ≡ every (λ x. ltb x (itemEnd (q .area))) items) where
-      pub items-refused : not small ≡ true → Refused RecordLimits ≡ requestVerdict q items
+      pub items-refused : not small ≡ true → Refused RecordLimits ≡ requestVerdict longest q items
       unfolding requestVerdict
-      items-refused t = rw (e, ← k, ← a, not-false (kind && area) fields, within-each q items, ← w, not-false text within, ← s, not-true small t)
+      items-refused t = rw (e, ← k, ← a, not-false (kind && area) fields, within-each longest q items, ← w, not-false text within, ← s, not-true small t)
 
       module _ (below : not small ≡ false) {nothing : Bool} (z : nothing ≡ cancelsNothing q) where
-        pub cancel-refused : nothing ≡ true → Refused CancelsNothing ≡ requestVerdict q items
+        pub cancel-refused : nothing ≡ true → Refused CancelsNothing ≡ requestVerdict longest q items
         unfolding requestVerdict
-        cancel-refused t = rw (e, ← k, ← a, not-false (kind && area) fields, within-each q items, ← w, not-false text within, ← s, not-false small below, ← z, t)
+        cancel-refused t = rw (e, ← k, ← a, not-false (kind && area) fields, within-each longest q items, ← w, not-false text within, ← s, not-false small below, ← z, t)
 
-        pub request-allowed : nothing ≡ false → Accepted ≡ requestVerdict q items
+        pub request-allowed : nothing ≡ false → Accepted ≡ requestVerdict longest q items
         unfolding requestVerdict
-        request-allowed t = rw (e, ← k, ← a, not-false (kind && area) fields, within-each q items, ← w, not-false text within, ← s, not-false small below, ← z, t)
+        request-allowed t = rw (e, ← k, ← a, not-false (kind && area) fields, within-each longest q items, ← w, not-false text within, ← s, not-false small below, ← z, t)

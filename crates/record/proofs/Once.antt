@@ -4,6 +4,7 @@ use mathlib.Core.Path.{_≡_}
 use mathlib.Core.List.{List}
 use Prim.Native.Nat.{ℕ}
 use Rattle.octets.proofs.Once.{one-outcome}
+use Rattle.rules.specs.Layout.{current}
 use Rattle.rules.specs.Record.{itemCount, requestOf}
 use Rattle.rules.specs.Refusals.{recordVerdict}
 use Rattle.rules.specs.Applied.{filledBy, itemAt, readBy, readOf, written}
@@ -16,7 +17,7 @@ use Rattle.rules.proofs.OnceLaws.{filled-injective, reading-injective}
 -- ---- reading the bytes r
 
 module _ (r : List ℕ) where
-  pub verdict-once : {v w : Verdict} → v ≡ recordVerdict r → w ≡ recordVerdict r → v ≡ w
+  pub verdict-once : {v w : Verdict} → v ≡ recordVerdict current r → w ≡ recordVerdict current r → v ≡ w
   verdict-once = one-outcome
 
   pub request-once : {p q : Request} → p ≡ requestOf r → q ≡ requestOf r → p ≡ q

@@ -4,15 +4,17 @@ use mathlib.Core.Path.{_≡_, refl, sym, _∙_}
 use mathlib.Core.Bool.{Bool, true, false, cond, not, _&&_, _||_, and-assoc, and-true}
 use mathlib.Core.List.{List, [], _∷_, map}
 use Prim.Native.Nat.{ℕ, _+_, _*_, _≤_, _<_}
+use native.Mathlib.Omega.{arith}
 use lib.Dec.{eqb, leb}
 use lib.ListN.{length, drop, getD, length-map}
 use Rattle.octets.proofs.RunsLaws.{length-pieces}
+use Rattle.octets.proofs.MarkLaws.{mark-and-version}
 use borrow.Author.Tests.{leb-true, le-leb, lt-leb, eq-eqb, ne-eqb, not-true, not-false}
-use Rattle.octets.specs.Runs.{gets, pieces}
+use Rattle.octets.specs.Runs.{Bytes, gets, pieces}
 use Rattle.octets.specs.Numbers.{be}
 use Rattle.octets.specs.Fields.{offset}
-use Rattle.rules.specs.Layout.{field, recordFields, recordSize, itemSize, recordMark, recordVersion, mostItems}
-use Rattle.rules.specs.Record.{identifierToSib, notified, requestOf, itemsOf, itemCount, zeroByte, recordMarked}
+use Rattle.rules.specs.Layout.{current, field, recordFields, recordSize, itemSize, recordMark, mostItems}
+use Rattle.rules.specs.Record.{versionIn, takes, longestAsked, identifierToSib, notified, requestOf, itemsOf, itemCount, zeroByte, recordMarked}
 use Rattle.rules.specs.Refusals.{requestVerdict, recordVerdict}
 use Rattle.rules.specs.Applied.{readBy, reading, readOf}
 use Rattle.rules.specs.declared.Request.{Request}
@@ -33,6 +35,26 @@ use Rattle.rules.proofs.RecordTrips.{record-accepted}
 
 pub record-field : (r : List ℕ) → recordSize ≤ length r → (k : ℕ) → field recordFields k r ≡ be (gets r (offset recordFields k) (getD recordFields k 0))
 record-field r h = field-at recordFields r (rw record-size h)
+
+-- ---- mark and version
+
+-- a test and one of two others
+and-either : (a p q : Bool) → a && (p || q) ≡ a && p || a && q
+and-either true p q = refl
+and-either false p q = refl
+
+-- the mark with the version's upper byte, then its lower byte: 1 or 2
+pub mark-taken : (r : List ℕ) → Bytes r → recordSize ≤ length r
+    → eqb (be (gets r 0 4)) (recordMark * 256) && (eqb (be (gets r 4 1)) 1 || eqb (be (gets r 4 1)) 2) ≡ recordMarked current r
+unfolding recordMarked offset
+mark-taken r b h =
+    let mark = eqb (be (gets r 0 3)) recordMark in
+    let version : ℕ = be (gets r 3 2) in
+    and-either (eqb (be (gets r 0 4)) (recordMark * 256)) (eqb (be (gets r 4 1)) 1) (eqb (be (gets r 4 1)) 2)
+    ∙ rw (mark-and-version r b recordMark 1 (omega arith), mark-and-version r b recordMark 2 (omega arith), le-leb _ _ h, record-field r h 0, record-field r h 1)
+    (sym (and-either mark (eqb version 1) (eqb version 2)))
+
+-- ---- items
 
 -- the first n items
 abbrev pub read-items : List ℕ → ℕ → List ℕ
@@ -83,8 +105,8 @@ module _ (r : List ℕ) (h : recordSize ≤ length r) where
 
 -- ---- 3 to 7 in their order
 
-module _ (r : List ℕ) {marked : Bool} (m : marked ≡ recordMarked r) where
-  pub mark-refused : not marked ≡ true → Refused RecordMark ≡ recordVerdict r
+module _ (r : List ℕ) {marked : Bool} (m : marked ≡ recordMarked current r) where
+  pub mark-refused : not marked ≡ true → Refused RecordMark ≡ recordVerdict current r
   unfolding recordVerdict
   mark-refused t = rw (← m, not-true marked t)
 
@@ -92,33 +114,33 @@ module _ (r : List ℕ) {marked : Bool} (m : marked ≡ recordMarked r) where
     pub long-enough : recordSize ≤ length r
     unfolding recordMarked
     long-enough =
-        let h = both (leb recordSize (length r) && eqb (field recordFields 0 r) recordMark) (eqb (field recordFields 1 r) recordVersion) (sym m ∙ not-false marked right) in
+        let h = both (leb recordSize (length r) && eqb (field recordFields 0 r) recordMark) (takes current (versionIn r)) (sym m ∙ not-false marked right) in
         leb-true recordSize (length r) (both (leb recordSize (length r)) (eqb (field recordFields 0 r) recordMark) (h .0) .0)
 
     module _ {n : ℕ} (c : n ≡ itemCount r) where
-      pub many-refused : mostItems < n → Refused RecordLength ≡ recordVerdict r
+      pub many-refused : mostItems < n → Refused RecordLength ≡ recordVerdict current r
       unfolding recordVerdict
       many-refused t = rw (← m, not-false marked right, ← c, lt-leb n mostItems t)
 
-      pub length-refused : n ≤ mostItems → (length r ≡ recordSize + itemSize * n → ⊥) → Refused RecordLength ≡ recordVerdict r
+      pub length-refused : n ≤ mostItems → (length r ≡ recordSize + itemSize * n → ⊥) → Refused RecordLength ≡ recordVerdict current r
       unfolding recordVerdict
       length-refused few t = rw (← m, not-false marked right, ← c, le-leb n mostItems few, ne-eqb (length r) (recordSize + itemSize * n) t)
 
       module _ (few : n ≤ mostItems) (size : length r ≡ recordSize + itemSize * n) {zero : ℕ} (z : zero ≡ zeroByte r) where
-        pub zero-refused : (zero ≡ 0 → ⊥) → Refused RecordFields ≡ recordVerdict r
+        pub zero-refused : (zero ≡ 0 → ⊥) → Refused RecordFields ≡ recordVerdict current r
         unfolding recordVerdict
         zero-refused t = rw (← m, not-false marked right, ← c, le-leb n mostItems few, eq-eqb (length r) (recordSize + itemSize * n) size, ← z, ne-eqb zero 0 t)
 
-        pub rest-judged : zero ≡ 0 → requestVerdict (requestOf r) (itemsOf r) ≡ recordVerdict r
+        pub rest-judged : zero ≡ 0 → requestVerdict (longestAsked r) (requestOf r) (itemsOf r) ≡ recordVerdict current r
         unfolding recordVerdict
         rest-judged t = rw (← m, not-false marked right, ← c, le-leb n mostItems few, eq-eqb (length r) (recordSize + itemSize * n) size, ← z, eq-eqb zero 0 t)
 
 -- ---- what is read
 
-module _ (r : List ℕ) {v : Verdict} (e : v ≡ recordVerdict r) where
+module _ (r : List ℕ) {v : Verdict} (e : v ≡ recordVerdict current r) where
   -- an accepted record is long enough for its fields
   pub accepted-long : v ≡ Accepted → recordSize ≤ length r
-  accepted-long t = record-accepted r (sym e ∙ t) .long
+  accepted-long t = record-accepted current r (sym e ∙ t) .long
 
   pub read-fields : v ≡ Accepted → {q : Request} {n : ℕ} → q ≡ requestOf r → n ≡ itemCount r → readBy (Fields q n) ≡ readOf r
   unfolding readOf reading

@@ -1,4 +1,4 @@
--- Demand 2 on records, of what `write`, `read` and `item` promise: what was written reads back as it was given, and what was read is written as the same bytes.
+-- Demand 2 on records, of what `write`, `read` and `item` promise: what was written reads back as it was given, and what was read is written as the same bytes, an older record as one of the writer's version.
 -- Each promise is an equation with a definition of the rules, so the round trips of those definitions carry over; an answer with number 0 is no refusal.
 use mathlib.Core.Path.{_≡_, sym, ap, _∙_}
 use mathlib.Core.Bool.{true}
@@ -8,8 +8,8 @@ use lib.ListN.{length, take, getD}
 use lib.Seq.{sets, ext-getD}
 use borrow.Author.Tests.{lt-ltb}
 use Rattle.octets.specs.Runs.{Bytes}
-use Rattle.rules.specs.Layout.{recordSize, itemSize}
-use Rattle.rules.specs.Record.{requestNumbers, itemCount, itemsOf}
+use Rattle.rules.specs.Layout.{current, recordSize, itemSize, recordVersion}
+use Rattle.rules.specs.Record.{requestNumbers, versionIn, itemCount, itemsOf, renewed}
 use Rattle.rules.specs.Refusals.{answerNumber, answerLength, recordVerdict}
 use Rattle.rules.specs.Applied.{Filled, ReadOutcome, filledBy, itemAt, readBy, reading, readOf, written}
 use Rattle.rules.specs.Sound.{fits, fitRequest}
@@ -22,6 +22,8 @@ use Rattle.rules.specs.declared.Verdict.the-variants.{Accepted}
 use Rattle.rules.proofs.OnceLaws.{answer-injective, reading-injective}
 use Rattle.rules.proofs.OutcomeLaws.{read-accepted}
 use Rattle.rules.proofs.RecordCodec.{length-itemsOf}
+use Rattle.rules.proofs.RecordTrips.{record-accepted}
+use Rattle.rules.proofs.RenewedLaws.{renewed-same}
 use Rattle.rules.proofs.RoundTrips.{WrittenRecord, write-read, read-write}
 use Rattle.record.proofs.Items.{itemAt-itemsOf}
 
@@ -66,7 +68,7 @@ module _ (r : List ℕ) (bytes : Bytes r) (q : Request) (n : ℕ) (promise : rea
   read-number : readOf r .number ≡ 0
   read-number = sym (ap (λ (o : ReadOutcome). o .number) promise)
 
-  read-verdict : recordVerdict r ≡ Accepted
+  read-verdict : recordVerdict current r ≡ Accepted
   read-verdict = read-accepted r read-number
 
   read-count : n ≡ itemCount r
@@ -78,10 +80,17 @@ module _ (r : List ℕ) (bytes : Bytes r) (q : Request) (n : ℕ) (promise : rea
       ext-getD 0 items (itemsOf r) (count ∙ read-count ∙ sym (length-itemsOf r))
       (λ k h. each k (rw count at h) ∙ itemAt-itemsOf r read-verdict k)
 
-  -- whatever `write` answers and leaves where there is room: the same bytes again, and those behind them as they were
-  pub read-written : (buffer : List ℕ) → length r ≤ length buffer → (x : Answer) (b : List ℕ) → filledBy x b ≡ written q items buffer → (x ≡ Written (length r)) × (b ≡ sets buffer 0 r)
-  read-written buffer room x b p =
-      let request : q ≡ readOf r .request = ap (λ (o : ReadOutcome). o .request) promise in
-      let w : filledBy x b ≡ record { number = 0; length = length r; buffer = sets buffer 0 r } =
-      p ∙ rw (request, read-items) (read-write r buffer bytes read-number room) in
-      (answer-injective x (Written (length r)) (ap (λ (f : Filled). f .number) w) (ap (λ (f : Filled). f .length) w), ap (λ (f : Filled). f .buffer) w)
+  module _ (buffer : List ℕ) (room : length r ≤ length buffer) (x : Answer) (b : List ℕ) (wrote : filledBy x b ≡ written q items buffer) where
+    -- whatever `write` answers and leaves where there is room: the same record in the writer's version, and the bytes behind it as they were
+    pub read-written : (x ≡ Written (length r)) × (b ≡ sets buffer 0 (renewed r))
+    read-written =
+        let request : q ≡ readOf r .request = ap (λ (o : ReadOutcome). o .request) promise in
+        let w : filledBy x b ≡ record { number = 0; length = length r; buffer = sets buffer 0 (renewed r) } =
+        wrote ∙ rw (request, read-items) (read-write r buffer bytes read-number room) in
+        (answer-injective x (Written (length r)) (ap (λ (f : Filled). f .number) w) (ap (λ (f : Filled). f .length) w), ap (λ (f : Filled). f .buffer) w)
+
+    -- of a record of that version: the same bytes again
+    pub own-written : versionIn r ≡ recordVersion → (x ≡ Written (length r)) × (b ≡ sets buffer 0 r)
+    own-written e =
+        let long : recordSize ≤ length r = record-accepted current r read-verdict .long in
+        (read-written .0, read-written .1 ∙ rw (renewed-same r long bytes e))

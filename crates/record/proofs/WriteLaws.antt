@@ -12,7 +12,7 @@ use Rattle.octets.specs.Numbers.{toBe}
 use Rattle.octets.specs.Fields.{bytesOf, offset}
 use Rattle.octets.proofs.RunsLaws.{sets-run, length-flatMap}
 use Rattle.octets.proofs.NumbersLaws.{length-toBe}
-use Rattle.rules.specs.Layout.{recordFields, recordSize, itemSize, recordMark, recordVersion, mostItems}
+use Rattle.rules.specs.Layout.{current, longestPeriod, recordFields, recordSize, itemSize, recordMark, recordVersion, mostItems}
 use Rattle.rules.specs.Record.{requestNumbers, recordBytes}
 use Rattle.rules.specs.Refusals.{requestVerdict, writeVerdict}
 use Rattle.rules.specs.Applied.{fill, filledBy, written}
@@ -95,7 +95,7 @@ module _ (q : Request) (items : List ℕ) (room : ℕ) where
   unfolding writeVerdict
   many-refused t = rw (lt-leb (length items) mostItems t)
 
-  module _ (few : length items ≤ mostItems) {v : Verdict} (e : v ≡ requestVerdict q items) where
+  module _ (few : length items ≤ mostItems) {v : Verdict} (e : v ≡ requestVerdict (longestPeriod current) q items) where
     pub request-refused : {x : Refusal} → v ≡ Refused x → Refused x ≡ writeVerdict q items room
     unfolding writeVerdict
     request-refused t = rw (le-leb (length items) mostItems few, ← e, t)

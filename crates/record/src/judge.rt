@@ -21,7 +21,6 @@ use rules::layout::CELL_END;
 use rules::layout::EMERGENCY_END;
 use rules::layout::FIRST_SIB;
 use rules::layout::LAST_SIB;
-use rules::layout::LONGEST_PERIOD;
 use rules::layout::TRACKING_END;
 
 // ---- 5: flags, areas and zero fields by kind
@@ -110,14 +109,14 @@ pub fn item_end(area: u8) -> u64
     EMERGENCY_END
 }
 
-// The limits of a Write-Replace: those of a request without items.
-pub fn text_within(request: Request) -> bool
-    ensures { λ r. ⌜ r ≡ withinLimits request [] ⌝ }
+// The limits of a Write-Replace, under a longest period: those of a request without items.
+pub fn text_within(request: Request, longest: u32) -> bool
+    ensures { λ r. ⌜ r ≡ withinLimits longest request [] ⌝ }
 {
     if request.kind != WRITE_REPLACE {
         return true;
     }
-    (request.period.0 <= LONGEST_PERIOD) & (FIRST_SIB <= request.sib) & (request.sib <= LAST_SIB)
+    (request.period.0 <= longest) & (FIRST_SIB <= request.sib) & (request.sib <= LAST_SIB)
 }
 
 // ---- 7

@@ -8,9 +8,9 @@ ghost use lib.ListN.{length, drop};
 ghost use Rattle.octets.specs.Numbers.{be};
 ghost use Rattle.octets.specs.Runs.{pieces};
 ghost use Rattle.rules.specs.Applied.{itemAt, readBy, readOf};
-ghost use Rattle.rules.specs.Layout.{itemSize, recordSize};
+ghost use Rattle.rules.specs.Layout.{current, itemSize, recordSize};
 ghost use Rattle.rules.specs.Lists.{every, zeros};
-ghost use Rattle.rules.specs.Record.{identifierToSib, itemCount, itemEnd, kindAllows, notified, requestOf};
+ghost use Rattle.rules.specs.Record.{identifierToSib, itemCount, itemEnd, kindAllows, longestAsked, notified, requestOf};
 ghost use Rattle.rules.specs.Refusals.{recordVerdict, requestVerdict};
 use crate::judge::any_area;
 use crate::judge::area_fits;
@@ -45,6 +45,8 @@ use rules::layout::FLAGS_AT;
 use rules::layout::IDENTIFIER_AT;
 use rules::layout::ITEM;
 use rules::layout::KIND_AT;
+use rules::layout::LONGEST_PERIOD;
+use rules::layout::LONGEST_PERIOD_1;
 use rules::layout::MOST_ITEMS;
 use rules::layout::RECORD;
 use rules::layout::RECORD_CONTENT_AT;
@@ -52,6 +54,8 @@ use rules::layout::RECORD_PERIOD_AT;
 use rules::layout::RECORD_REQUESTED_AT;
 use rules::layout::RECORD_SIB_AT;
 use rules::layout::SERIAL_AT;
+use rules::layout::VERSION_1;
+use rules::layout::VERSION_AT;
 use rules::layout::ZERO_AT;
 
 // The fields of a record.
@@ -78,6 +82,17 @@ pub fn count(req: &[u8]) -> usize
     ensures { λ r. ⌜ r ≡ itemCount (now (req .entry)) ⌝ }
 {
     get16(req, COUNT_AT) as usize
+}
+
+// The longest period that a record may ask for: its own version says.
+fn longest_asked(req: &[u8]) -> u32
+    requires { ⌜ recordSize ≤ length (now req) ⌝ }
+    ensures { λ r. ⌜ r ≡ longestAsked (now (req .entry)) ⌝ }
+{
+    if get16(req, VERSION_AT) == VERSION_1 as u16 {
+        return LONGEST_PERIOD_1;
+    }
+    LONGEST_PERIOD
 }
 
 // Whether each of the first n items is small enough for its area. Its end is a power of 2, so all of them are where all their bits are.
@@ -137,13 +152,13 @@ fn kind_allows(req: &[u8]) -> bool
 // The first of the refusals 5, 6 and 7 that applies to the fields and n items.
 fn judged(req: &[u8], n: usize) -> Verdict
     requires { ⌜ recordSize + itemSize * n ≤ length (now req) ⌝ }
-    ensures { λ r. ⌜ r ≡ requestVerdict (requestOf (now (req .entry))) (map be (pieces itemSize n (drop recordSize (now (req .entry))))) ⌝ }
+    ensures { λ r. ⌜ r ≡ requestVerdict (longestAsked (now (req .entry))) (requestOf (now (req .entry))) (map be (pieces itemSize n (drop recordSize (now (req .entry))))) ⌝ }
 {
     let fields = request(req);
     if !(kind_allows(req) & area_fits(fields, n)) {
         return Verdict::Refused(Refusal::RecordFields);
     }
-    if !text_within(fields) {
+    if !text_within(fields, longest_asked(req)) {
         return Verdict::Refused(Refusal::RecordLimits);
     }
     if !items_small(req, n, fields.area) {
@@ -157,7 +172,7 @@ fn judged(req: &[u8], n: usize) -> Verdict
 
 // The first of the refusals 3 to 7 that applies to any bytes.
 pub fn verdict(req: &[u8]) -> Verdict
-    ensures { λ r. ⌜ r ≡ recordVerdict (now (req .entry)) ⌝ }
+    ensures { λ r. ⌜ r ≡ recordVerdict current (now (req .entry)) ⌝ }
 {
     if !marked(req) {
         return Verdict::Refused(Refusal::RecordMark);

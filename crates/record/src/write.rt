@@ -9,7 +9,7 @@ ghost use Rattle.octets.specs.Fields.{bytesOf, offset};
 ghost use Rattle.octets.specs.Joined.{joined};
 ghost use Rattle.octets.specs.Numbers.{toBe};
 ghost use Rattle.rules.specs.Applied.{filledBy, written};
-ghost use Rattle.rules.specs.Layout.{itemSize, recordFields, recordSize};
+ghost use Rattle.rules.specs.Layout.{current, itemSize, longestPeriod, recordFields, recordSize};
 ghost use Rattle.rules.specs.Lists.{every};
 ghost use Rattle.rules.specs.Record.{itemEnd, requestNumbers};
 ghost use Rattle.rules.specs.Refusals.{requestVerdict, writeVerdict};
@@ -33,6 +33,7 @@ use rules::layout::FLAGS_AT;
 use rules::layout::IDENTIFIER_AT;
 use rules::layout::ITEM;
 use rules::layout::KIND_AT;
+use rules::layout::LONGEST_PERIOD;
 use rules::layout::MOST_ITEMS;
 use rules::layout::RECORD;
 use rules::layout::RECORD_CONTENT_AT;
@@ -67,12 +68,12 @@ fn items_small(items: &[u64], area: u8) -> bool
 
 // The first of the refusals 5, 6 and 7 that applies.
 fn judged(request: Request, items: &[u64]) -> Verdict
-    ensures { λ r. ⌜ r ≡ requestVerdict request (now (items .entry)) ⌝ }
+    ensures { λ r. ⌜ r ≡ requestVerdict (longestPeriod current) request (now (items .entry)) ⌝ }
 {
     if !(kind_allows(request) & area_fits(request, items.len())) {
         return Verdict::Refused(Refusal::RecordFields);
     }
-    if !text_within(request) {
+    if !text_within(request, LONGEST_PERIOD) {
         return Verdict::Refused(Refusal::RecordLimits);
     }
     if !items_small(items, request.area) {

@@ -2,7 +2,8 @@
 use mathlib.Core.Path.{_≡_}
 use mathlib.Core.List.{List, [], _∷_, _++_, flatMap}
 use Prim.Native.Nat.{ℕ, _+_}
-use Rattle.rules.specs.Samples.{head, example}
+use Rattle.rules.specs.ByHand.{head}
+use Rattle.rules.specs.Samples.{example}
 use Rattle.report.specs.Report.{report}
 
 -- two cells, and the seven requests

@@ -5,7 +5,7 @@ use mathlib.Core.List.{List, [], _++_}
 use Prim.Native.Nat.{ℕ, zero, suc, _+_, _*_}
 use lib.Dec.{eqb, leb}
 use lib.ListN.{length, take, drop, replicate}
-use Rattle.rules.specs.Layout.{headerSize, cellSize, headSize, mostCells, placesPerCell, answerSize, rowSize}
+use Rattle.rules.specs.Layout.{current, headerSize, cellSize, headSize, mostCells, placesPerCell, answerSize, rowSize}
 use Rattle.rules.specs.Applied.{Filled, built, applied}
 use Rattle.lines.specs.Text.{mostPlaces, longestRow, saidOf, noText, Said}
 use Rattle.report.specs.declared.serve.Turn.{Turn}
@@ -16,14 +16,14 @@ abbrev pub answerRoom : ℕ → ℕ
 answerRoom n = answerSize + rowSize * placesPerCell * n
 
 abbrev pub tableSize : ℕ → ℕ
-tableSize n = headerSize + cellSize * n
+tableSize n = headerSize + cellSize current * n
 
 -- the requests of the input, one by one, on a table and an answer buffer: at most so many of them
 unfoldable pub requestsSaid : ℕ → List ℕ → List ℕ → List ℕ → List ℕ
 requestsSaid zero t a l = []
 requestsSaid (suc k) t a l =
     let size = frameOf l true in
-    let o = applied t (take size l) a in
+    let o = applied current t (take size l) a in
     cond
     (eqb (length l) 0)
     []
@@ -50,7 +50,7 @@ abbrev pub mostText : ℕ
 mostText = mostPlaces + mostPlaces + 5 + longestRow * (placesPerCell * mostCells)
 
 pub record Turned (t r a out : List ℕ) (at : ℕ) (t' a' out' : List ℕ) (x : Turn) : Type 0 where
-  pub table : t' ≡ applied t r a .table
-  pub answer : a' ≡ applied t r a .answer
-  pub text : Said out at (saidOf (applied t r a)) out' (x .end)
-  pub stop : x .stops ≡ stopsAt (applied t r a .number)
+  pub table : t' ≡ applied current t r a .table
+  pub answer : a' ≡ applied current t r a .answer
+  pub text : Said out at (saidOf (applied current t r a)) out' (x .end)
+  pub stop : x .stops ≡ stopsAt (applied current t r a .number)

@@ -1,11 +1,9 @@
 -- What happens in a cell, by the request's kind: the routine that is called does what `inCell` says, within the rows that the kind may have.
 -- Each kind but a second has one row at most; of the known kinds but a second only a failure is left at the end.
-use mathlib.Core.Path.{_≡_, refl, ap, _∙_}
+use mathlib.Core.Path.{_≡_, ap, _∙_}
 use mathlib.Core.List.{List}
 use Prim.Native.Nat.{ℕ}
-use native.Mathlib.Omega.{arith}
-use Rattle.rules.specs.Layout.{placesPerCell}
-use Rattle.rules.specs.Record.{writeReplace, cancelOrKill, restartKind, failureKind, oneSecond, kindAllows}
+use Rattle.rules.specs.Record.{writeReplace, cancelOrKill, restartKind, failureKind, oneSecond}
 use Rattle.rules.specs.InCell.{Done, inCell}
 use Rattle.rules.specs.Answer.{rowsPerCell}
 use Rattle.rules.specs.declared.Place.{Place}

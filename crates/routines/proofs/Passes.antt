@@ -3,23 +3,22 @@
 use mathlib.Core.Path.{_≡_, refl, sym, ap, _∙_}
 use mathlib.Core.Bool.{true, false, not}
 use mathlib.Core.List.{List, [], _∷_, map, flatMap}
-use Prim.Native.Nat.{ℕ, _≤_}
+use Prim.Native.Nat.{ℕ, _^_, _<_, _≤_}
 use native.Mathlib.Omega.{arith}
 use lib.Dec.{eqb}
 use borrow.Author.Tests.{eqb-false, ne-eqb}
-use lib.ListN.{length, length-map}
+use lib.ListN.{length, getD, length-map}
 use Rattle.octets.specs.Runs.{Bytes}
 use Rattle.rules.specs.Lists.{every, those}
-use Rattle.rules.specs.Layout.{placeFields, placesPerCell, longestPeriod}
+use Rattle.rules.specs.Layout.{current, placeFields, placesPerCell}
 use Rattle.rules.specs.Table.{placeNumbers, legalPlace, placeRuns}
 use Rattle.rules.specs.InCell.{isDue, later, withCounts, hasEnded, staysLive, second}
-use Rattle.rules.specs.Sound.{fits, soundPlace}
 use Rattle.rules.specs.declared.Place.{Place}
-use Rattle.rules.proofs.ListsLaws.{both, and-true, by-test, larger-most}
+use Rattle.rules.proofs.ListsLaws.{both, by-test}
 use Rattle.rules.proofs.PlaceLaws.{legal-facts}
-use Rattle.rules.proofs.SoundPlaceLaws.{sound-facts}
+use Rattle.rules.proofs.SoundPlaceLaws.{fits-at}
 use Rattle.rules.proofs.SecondLaws.{oneMore-most, later-due, later-waits}
-use Rattle.rules.proofs.AllLaws.{All, none, more}
+use Rattle.rules.proofs.AllLaws.{All, all-imply, all-map}
 use Rattle.rules.proofs.PlaceCodec.{FitPlace, legal-places}
 use Rattle.rules.proofs.CellCodec.{legal-cell}
 use Rattle.cell.specs.Places.{livePlaces, withPlaces, Formed}
@@ -28,39 +27,40 @@ use Rattle.routines.specs.Step.{Ready, Stepped}
 use Rattle.routines.specs.Second.{goingOn, endings, AllLater}
 
 -- a legal place has not ended
-pub legal-goes-on : (p : Place) → legalPlace p ≡ true → hasEnded p ≡ false
+pub legal-goes-on : (p : Place) → legalPlace current p ≡ true → hasEnded p ≡ false
 unfolding hasEnded
 legal-goes-on p e =
-    let l = legal-facts p e in
+    let l = legal-facts current p e in
     by-test (eqb (p .requested .0) 0) (λ z. rw z)
     (λ n. rw (n, ne-eqb (p .sent .0) (p .requested .0) (λ s. omega (arith, l .sent (eqb-false (p .requested .0) 0 n)))))
 
 -- waiting changes neither count that says so
-pub waits-goes-on : (p : Place) → legalPlace p ≡ true → isDue p ≡ false → hasEnded (later p) ≡ false
+pub waits-goes-on : (p : Place) → legalPlace current p ≡ true → isDue p ≡ false → hasEnded (later p) ≡ false
 unfolding withCounts hasEnded
 waits-goes-on p e d = rw (later-waits p d) (legal-goes-on p e)
 
 -- the counts of a place after the second fit their fields
-pub later-fit : (p : Place) → FitPlace p → legalPlace p ≡ true → FitPlace (later p)
-unfolding soundPlace withCounts
-later-fit p fit e =
-    let s = sound-facts p (and-true (fits placeFields (placeNumbers p)) (legalPlace p) fit e) in
-    let l = s .legal in
-    let w : p .wait .0 ≤ longestPeriod = omega (arith, l .wait, larger-most (p .period .0) 1 longestPeriod (l .period) (omega arith)) in
+pub later-fit : (p : Place) → FitPlace current p → FitPlace current (later p)
+unfolding placeNumbers withCounts
+later-fit p fit =
+    let at : (f : ℕ) → getD (placeNumbers p) f 0 < 256 ^ getD (placeFields current) f 0 = λ f. fits-at (placeFields current) (placeNumbers p) f fit in
+    let period : p .period .0 < 256 ^ 4 = at 3 in
+    let sent : p .sent .0 < 256 ^ 2 = at 5 in
+    let wait : p .wait .0 < 256 ^ 4 = at 6 in
     by-test (isDue p)
-    (λ d. rw (later-due p d) (fit-counts p fit _ _ (omega (arith, s .sent, oneMore-most (p .sent .0) (omega (arith, s .sent)))) (omega (arith, l .period))))
-    (λ d. rw (later-waits p d) (fit-counts p fit _ _ (s .sent) (omega arith)))
+    (λ d. rw (later-due p d) (fit-counts p fit _ _ (omega (arith, oneMore-most (p .sent .0) (omega arith))) (omega arith)))
+    (λ d. rw (later-waits p d) (fit-counts p fit _ _ sent (omega arith)))
 
-pub stays-or-ended : (p : Place) → legalPlace p ≡ true → staysLive p ≡ not (hasEnded (later p))
+pub stays-or-ended : (p : Place) → legalPlace current p ≡ true → staysLive p ≡ not (hasEnded (later p))
 unfolding staysLive
 stays-or-ended p e =
     by-test (isDue p) (λ d. rw d) (λ d. rw (d, waits-goes-on p e d))
 
-pub two-passes : (ps : List Place) → every legalPlace ps ≡ true → second ps .places ≡ those (λ p. not (hasEnded p)) (map later ps)
+pub two-passes : (ps : List Place) → every (legalPlace current) ps ≡ true → second ps .places ≡ those (λ p. not (hasEnded p)) (map later ps)
 unfolding second those flatMap every
 two-passes [] e = refl
 two-passes (p ∷ ps) e =
-    let h = both (legalPlace p) (every legalPlace ps) e in
+    let h = both (legalPlace current p) (every (legalPlace current) ps) e in
     rw (stays-or-ended p (h .0), two-passes ps (h .1))
 
 -- ---- the two passes of a cell
@@ -70,19 +70,12 @@ unfolding endings goingOn those flatMap
 none-ended [] e = refl
 none-ended (p ∷ ps) e = by-test (hasEnded p) (λ t. absurd (omega (arith, rw t at e))) (λ t. rw (t, none-ended ps (rw t at e)))
 
-map-fit : {ps : List Place} → All FitPlace ps → every legalPlace ps ≡ true → All FitPlace (map later ps)
-unfolding every
-map-fit none e = none
-map-fit (more {x = p} {xs = ps} f fs) e =
-    let h = both (legalPlace p) (every legalPlace ps) e in
-    more (later-fit p f (h .0)) (map-fit fs (h .1))
-
 module _ (c out : List ℕ) (bytes : Bytes c) (ready : Ready c out placesPerCell) {c′ out′ : List ℕ} {rows gone : ℕ} (pass : AllLater c out c′ out′ rows gone) where
-  legal : every legalPlace (livePlaces c) ≡ true
-  legal = legal-places (placeRuns c) (legal-cell c (ready .legal) .1) .each
+  legal : every (legalPlace current) (livePlaces c) ≡ true
+  legal = legal-places current (placeRuns current c) (legal-cell current c (ready .legal) .1) .each
 
-  fit : All FitPlace (map later (livePlaces c))
-  fit = map-fit (live-fit c bytes (ready .size)) legal
+  fit : All (FitPlace current) (map later (livePlaces c))
+  fit = all-map (FitPlace current) later (all-imply later-fit (live-fit c bytes (ready .size)))
 
   few : length (map later (livePlaces c)) ≤ placesPerCell
   few = rw length-map (live-few c)

@@ -10,7 +10,7 @@ use lib.Dec.{ltb}
 use lib.ListN.{length, take, set, length-append}
 use lib.Seq.{set-at, take-at, drop-at, getD-at, drop-drop}
 use Rattle.octets.specs.Runs.{Bytes}
-use Rattle.rules.specs.Layout.{headSize, placesPerCell, cellSize}
+use Rattle.rules.specs.Layout.{current, headSize, placesPerCell, cellSize}
 use Rattle.rules.specs.declared.Place.{Place}
 use Rattle.rules.proofs.AllLaws.{All, none, more}
 use Rattle.rules.proofs.JoinedLaws.{all-append}
@@ -20,12 +20,12 @@ use Rattle.cell.proofs.PlacesLaws.{head-withPlaces, withPlaces-again, withPlace
 
 -- the cell c is c₀ with other places: k passed, and the rest
 pub record Passing (c₀ c : List ℕ) (k : ℕ) (passed rest : List Place) : Type 0 where
-  pub size : length c₀ ≡ cellSize
+  pub size : length c₀ ≡ cellSize current
   pub cell : c ≡ withPlaces c₀ (passed ++ rest)
   pub behind : length passed ≡ k
   pub few : k + length rest ≤ placesPerCell
-  pub fit-passed : All FitPlace passed
-  pub fit-rest : All FitPlace rest
+  pub fit-passed : All (FitPlace current) passed
+  pub fit-rest : All (FitPlace current) rest
 
 pub pass-starts : (c : List ℕ) → Bytes c → Formed c → Passing c c 0 [] (livePlaces c)
 pass-starts c bytes formed =
@@ -39,7 +39,7 @@ pass-starts c bytes formed =
     }
 
 module _ {c₀ c : List ℕ} {k : ℕ} {passed rest : List Place} (w : Passing c₀ c k passed rest) where
-  all-fit : All FitPlace (passed ++ rest)
+  all-fit : All (FitPlace current) (passed ++ rest)
   all-fit = all-append (w .fit-passed) (w .fit-rest)
 
   many : length (passed ++ rest) ≡ k + length rest
@@ -65,7 +65,7 @@ module _ {c₀ c : List ℕ} {k : ℕ} {passed rest : List Place} (w : Passing c
 
 -- ---- the next place
 
-fit-next : {p : Place} {rest : List Place} → All FitPlace (p ∷ rest) → FitPlace p × All FitPlace rest
+fit-next : {p : Place} {rest : List Place} → All (FitPlace current) (p ∷ rest) → FitPlace current p × All (FitPlace current) rest
 fit-next (more f fs) = (f, fs)
 
 module _ {c₀ c : List ℕ} {k : ℕ} {passed rest : List Place} {p : Place} (w : Passing c₀ c k passed (p ∷ rest)) where
@@ -73,10 +73,10 @@ module _ {c₀ c : List ℕ} {k : ℕ} {passed rest : List Place} {p : Place} (w
   unfolding placeAt
   next-place = rw (pass-live w) (getD-at passed p rest noPlace k (w .behind))
 
-  pub next-fit : FitPlace p
+  pub next-fit : FitPlace current p
   next-fit = fit-next (w .fit-rest) .0
 
-  pub next-changes : (q : Place) → FitPlace q → (c′ : List ℕ) → c′ ≡ withPlaces c (set (livePlaces c) k q) → Passing c₀ c′ (k + 1) (passed ++ (q ∷ [])) rest
+  pub next-changes : (q : Place) → FitPlace current q → (c′ : List ℕ) → c′ ≡ withPlaces c (set (livePlaces c) k q) → Passing c₀ c′ (k + 1) (passed ++ (q ∷ [])) rest
   next-changes q fits c′ e =
       record {
         size = w .size;

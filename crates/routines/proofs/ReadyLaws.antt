@@ -5,7 +5,7 @@ use mathlib.Core.Bool.{true}
 use mathlib.Core.List.{List}
 use Prim.Native.Nat.{ℕ}
 use Rattle.octets.specs.Runs.{Bytes}
-use Rattle.rules.specs.Layout.{placeFields}
+use Rattle.rules.specs.Layout.{current, placeFields}
 use Rattle.rules.specs.Table.{placeNumbers, placeRuns, different}
 use Rattle.rules.proofs.AllLaws.{All, all-imply}
 use Rattle.rules.proofs.PlaceCodec.{legal-places}
@@ -21,8 +21,8 @@ module _ (c out : List ℕ) (most : ℕ) (ready : Ready c out most) where
   ready-formed bytes = formed-legal c bytes (ready .size) (ready .legal)
 
   pub ready-apart : different (livePlaces c) ≡ true
-  ready-apart = legal-places (placeRuns c) (legal-cell c (ready .legal) .1) .distinct
+  ready-apart = legal-places current (placeRuns current c) (legal-cell current c (ready .legal) .1) .distinct
 
   pub ready-small : Bytes c → All Small (livePlaces c)
   unfolding placeNumbers
-  ready-small bytes = all-imply (λ p fit. fits-at placeFields (placeNumbers p) 1 fit) (live-fit c bytes (ready .size))
+  ready-small bytes = all-imply (λ p fit. fits-at (placeFields current) (placeNumbers p) 1 fit) (live-fit c bytes (ready .size))

@@ -10,7 +10,7 @@ use lib.Dec.{ltb}
 use lib.ListN.{length}
 use lib.Seq.{sets}
 use Rattle.octets.specs.Runs.{Bytes}
-use Rattle.rules.specs.Layout.{placesPerCell}
+use Rattle.rules.specs.Layout.{current, placesPerCell}
 use Rattle.rules.specs.Table.{placeOf, running}
 use Rattle.rules.specs.Record.{concurrent}
 use Rattle.rules.specs.InCell.{done, reported, startsNothing, newPlace, start}
@@ -48,15 +48,15 @@ module _ (q : Request) (ps : List Place) (starts : startsNothing q ≡ false) wh
 -- ---- the new place
 
 module _ (q : Request) (new : List ℕ) (input : StartIn q new) where
-  new-fit : FitPlace (newPlace q)
-  new-fit = sound-place (newPlace q) (input .sound) .0
+  new-fit : FitPlace current (newPlace q)
+  new-fit = sound-place current (newPlace q) (input .sound) .0
 
-  new-again : placeOf new ≡ newPlace q
-  new-again = rw (input .new-place) (place-again (newPlace q) new-fit)
+  new-again : placeOf current new ≡ newPlace q
+  new-again = rw (input .new-place) (place-again current (newPlace q) new-fit)
 
   pub new-one : OnePlace new
   new-one =
-      rw (input .new-place) (record { long = length-placeBytes (newPlace q); live = place-live (newPlace q) new-fit })
+      rw (input .new-place) (record { long = length-placeBytes current (newPlace q); live = place-live current (newPlace q) new-fit })
 
 -- ---- in a cell, with what the search gave
 
@@ -110,7 +110,7 @@ module _ {c out new : List ℕ} {q : Request} {at : ℕ} {found : Bool} (b : Beg
             room = omega arith;
           })
 
-      pub start-alone : {c′ out′ : List ℕ} → c′ ≡ withPlaces c₁ (livePlaces c₁ ++ (placeOf new ∷ [])) → out′ ≡ sets out 0 (rowsBytes c (reported 0))
+      pub start-alone : {c′ out′ : List ℕ} → c′ ≡ withPlaces c₁ (livePlaces c₁ ++ (placeOf current new ∷ [])) → out′ ≡ sets out 0 (rowsBytes c (reported 0))
           → Stepped (start q (livePlaces c)) c out c′ out′ 1 1
       start-alone {c′} {out′} cell rows =
           let long = b .ready .size in
@@ -121,7 +121,7 @@ module _ {c out new : List ℕ} {q : Request} {at : ℕ} {found : Bool} (b : Beg
 
     -- flag 1 present
     module _ (more : concurrent q ≡ true) where
-      pub start-behind : at < placesPerCell → {c′ out′ : List ℕ} → c′ ≡ withPlaces c (livePlaces c ++ (placeOf new ∷ [])) → out′ ≡ sets out 0 (rowsBytes c (reported 0))
+      pub start-behind : at < placesPerCell → {c′ out′ : List ℕ} → c′ ≡ withPlaces c (livePlaces c ++ (placeOf current new ∷ [])) → out′ ≡ sets out 0 (rowsBytes c (reported 0))
           → Stepped (start q (livePlaces c)) c out c′ out′ 1 1
       start-behind room {c′} {out′} cell rows =
           told _ c out (livePlaces c ++ (newPlace q ∷ [])) 0 (start-more q (livePlaces c) (b .input .starts) absent more (omega (arith, first))) c′ out′ (cell ∙ rw (new-again q new (b .input))) rows

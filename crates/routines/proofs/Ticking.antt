@@ -11,14 +11,13 @@ use borrow.Author.Tests.{eq-eqb, ne-eqb}
 use Rattle.octets.specs.Runs.{Bytes}
 use Rattle.octets.proofs.RunsLaws.{sets-run}
 use Rattle.rules.specs.Lists.{every, those}
-use Rattle.rules.specs.Layout.{placesPerCell, rowSize, longestPeriod}
+use Rattle.rules.specs.Layout.{current, placesPerCell, rowSize}
 use Rattle.rules.specs.Table.{legalPlace, cellOf, placeRuns}
 use Rattle.rules.specs.InCell.{Told, isDue, later, withCounts, hasEnded, second}
 use Rattle.rules.specs.Answer.{rowBytes}
 use Rattle.rules.specs.Applied.{rowOf}
 use Rattle.rules.specs.declared.Place.{Place}
-use Rattle.rules.proofs.ListsLaws.{both, larger-most}
-use Rattle.rules.proofs.PlaceLaws.{legal-facts}
+use Rattle.rules.proofs.ListsLaws.{both}
 use Rattle.rules.proofs.SecondLaws.{later-waits}
 use Rattle.rules.proofs.AppliedLaws.{length-rowBytes}
 use Rattle.rules.proofs.PlaceCodec.{legal-places}
@@ -49,7 +48,7 @@ module _ (p : Place) (ps : List Place) where
   unfolding endings those flatMap
   endings-none e = rw e
 
-rows-cons : (c : List ℕ) (x : Told) (xs : List Told) → rowsBytes c (x ∷ xs) ≡ rowBytes (rowOf (cellOf c) x) ++ rowsBytes c xs
+rows-cons : (c : List ℕ) (x : Told) (xs : List Told) → rowsBytes c (x ∷ xs) ≡ rowBytes (rowOf (cellOf current c) x) ++ rowsBytes c xs
 unfolding rowsBytes flatMap
 rows-cons c x xs = refl
 
@@ -58,7 +57,7 @@ rows-cons c x xs = refl
 -- k places are passed, n rows written and `gone` texts have ended; the rest is still to come
 pub record Ticks (c₀ o₀ c o : List ℕ) (k n gone : ℕ) (passed rest : List Place) : Type 0 where
   pub pass : Passing c₀ c k passed rest
-  pub legal : every legalPlace rest ≡ true
+  pub legal : every (legalPlace current) rest ≡ true
   pub few : k ≤ placesPerCell
   pub few-rows : n ≤ k
   pub few-gone : gone ≤ k
@@ -83,7 +82,7 @@ ticks-start c o bytes ready =
     ticking
     (record {
       pass = pass-starts c bytes (formed-legal c bytes (ready .size) (ready .legal));
-      legal = legal-places (placeRuns c) (legal-cell c (ready .legal) .1) .each;
+      legal = legal-places current (placeRuns current c) (legal-cell current c (ready .legal) .1) .each;
       few = omega arith;
       few-rows = omega arith;
       few-gone = omega arith;
@@ -98,14 +97,9 @@ ticks-start c o bytes ready =
 -- ---- the next place
 
 module _ {c₀ o₀ c o : List ℕ} {k n gone : ℕ} {passed rest : List Place} {p : Place} (t : Ticks c₀ o₀ c o k n gone passed (p ∷ rest)) where
-  next-legal : (legalPlace p ≡ true) × (every legalPlace rest ≡ true)
+  next-legal : (legalPlace current p ≡ true) × (every (legalPlace current) rest ≡ true)
   unfolding every
-  next-legal = both (legalPlace p) (every legalPlace rest) (t .legal)
-
-  next-short : (p .period .0 ≤ longestPeriod) × (p .wait .0 ≤ longestPeriod)
-  next-short =
-      let l = legal-facts p (next-legal .0) in
-      (l .period, omega (arith, l .wait, larger-most (p .period .0) 1 longestPeriod (l .period) (omega arith)))
+  next-legal = both (legalPlace current p) (every (legalPlace current) rest) (t .legal)
 
   -- whether it is broadcast, and the last time, or not
   turn : (r e n′ gone′ : ℕ) (c′ o′ : List ℕ) → n′ ≡ n + r → gone′ ≡ gone + e → r ≤ 1 → e ≤ 1 → c′ ≡ withPlaces c (set (livePlaces c) k (later p)) → length o′ ≡ length o
@@ -116,7 +110,7 @@ module _ {c₀ o₀ c o : List ℕ} {k n gone : ℕ} {passed rest : List Place} 
   turn r e n′ gone′ c′ o′ en eg r-one e-one ec same′ er ea ee =
       ticking
       (record {
-        pass = next-changes (t .pass) (later p) (later-fit p (next-fit (t .pass)) (next-legal .0)) c′ ec;
+        pass = next-changes (t .pass) (later p) (later-fit p (next-fit (t .pass))) c′ ec;
         legal = next-legal .1;
         few = omega (arith, t .pass .few);
         few-rows = omega (arith, t .few-rows);
@@ -134,15 +128,15 @@ module _ {c₀ o₀ c o : List ℕ} {k n gone : ℕ} {passed rest : List Place} 
       turn 0 0 n gone c′ o (omega arith) (omega arith) (omega arith) (omega arith) ec refl (rw (told-waits p rest d) (omega arith)) (rw (told-waits p rest d))
       (rw (endings-none (later p) (map later rest) (waits-goes-on p (next-legal .0) d)) (omega arith))
 
-  same-row : rowOf (cellOf c) (toldOf p) ≡ rowOf (cellOf c₀) (toldOf p)
+  same-row : rowOf (cellOf current c) (toldOf p) ≡ rowOf (cellOf current c₀) (toldOf p)
   unfolding cellOf
   same-row = rw (pass-head (t .pass))
 
   turn-airs : isDue p ≡ true → (c′ o′ : List ℕ) (r : ℕ) → r ≤ 1 → c′ ≡ withPlaces c (set (livePlaces c) k (later p))
-      → o′ ≡ sets o (rowSize * n) (rowBytes (rowOf (cellOf c) (toldOf p))) → r ≡ endings (later p ∷ []) → Ticking c₀ o₀ c′ o′ (k + 1) (n + 1) (gone + r)
+      → o′ ≡ sets o (rowSize * n) (rowBytes (rowOf (cellOf current c) (toldOf p))) → r ≡ endings (later p ∷ []) → Ticking c₀ o₀ c′ o′ (k + 1) (n + 1) (gone + r)
   turn-airs d c′ o′ r one ec eo er =
-      let row : List ℕ = rowBytes (rowOf (cellOf c₀) (toldOf p)) in
-      let long : length row ≡ rowSize = length-rowBytes (rowOf (cellOf c₀) (toldOf p)) in
+      let row : List ℕ = rowBytes (rowOf (cellOf current c₀) (toldOf p)) in
+      let long : length row ≡ rowSize = length-rowBytes (rowOf (cellOf current c₀) (toldOf p)) in
       let e : o′ ≡ sets o (rowSize * n) row = eo ∙ rw same-row in
       turn 1 r (n + 1) (gone + r) c′ o′ refl refl (omega arith) one ec (ap length e ∙ length-sets o (rowSize * n) row) (rw (told-due p rest d) (omega arith))
       (rw (told-due p rest d, rows-cons, e) (sym (sets-run row (rowsBytes c₀ (second rest .rows)) o (rowSize * n) (rowSize * (n + 1)) (omega arith))))
@@ -159,11 +153,6 @@ unfolding isDue
 waits p e = ne-eqb (p .wait .0) 0 e
 
 module _ {c₀ o₀ c o : List ℕ} {k n gone : ℕ} where
-  short : (passed rest : List Place) → Ticks c₀ o₀ c o k n gone passed rest → k < length (livePlaces c)
-      → (placeAt c k .period .0 ≤ longestPeriod) × (placeAt c k .wait .0 ≤ longestPeriod)
-  short passed [] t live = absurd (omega (arith, pass-many (t .pass)))
-  short passed (p ∷ rest) t live = rw (next-place (t .pass)) (next-short t)
-
   airs : (passed rest : List Place) → Ticks c₀ o₀ c o k n gone passed rest → k < length (livePlaces c) → placeAt c k .wait .0 ≡ 0
       → (c′ o′ : List ℕ) (r : ℕ) → Aired c o k n c′ o′ r → Ticking c₀ o₀ c′ o′ (k + 1) (n + 1) (gone + r)
   airs passed [] t live z c′ o′ r a = absurd (omega (arith, pass-many (t .pass)))
@@ -194,16 +183,12 @@ module _ {c₀ o₀ c o : List ℕ} {k n gone : ℕ} where
   over passed (p ∷ rest) t h = absurd (omega (arith, pass-many (t .pass)))
 
   module _ (g : Ticking c₀ o₀ c o k n gone) where
-    pub tick-short : k < length (livePlaces c) → (placeAt c k .period .0 ≤ longestPeriod) × (placeAt c k .wait .0 ≤ longestPeriod)
-    tick-short = short (g .passed) (g .rest) (g .ticks)
-
     pub tick-to-air : k < length (livePlaces c) → placeAt c k .wait .0 ≡ 0 → ToAir c o k n
     tick-to-air live z =
         let at : LiveAt c k = live-at c (g .formed) k live in
         record {
           at = at;
           due = due (placeAt c k) z;
-          period = tick-short live .0;
           few = omega (arith, at .few, g .ticks .few-rows);
           room = omega (arith, at .few, g .ticks .few-rows, g .ticks .room);
         }

@@ -6,7 +6,7 @@ use Prim.Native.Nat.{ℕ, _+_, _*_, _≤_, _<_}
 use lib.ListN.{length, set}
 use lib.Seq.{sets}
 use Rattle.rules.specs.Lists.{those}
-use Rattle.rules.specs.Layout.{placesPerCell, rowSize, longestPeriod}
+use Rattle.rules.specs.Layout.{current, placesPerCell, rowSize}
 use Rattle.rules.specs.Table.{cellOf}
 use Rattle.rules.specs.InCell.{Told, isDue, later, hasEnded, second}
 use Rattle.rules.specs.Answer.{rowBytes}
@@ -31,14 +31,13 @@ endings ps = length (those hasEnded ps)
 pub record ToAir (c out : List ℕ) (k n : ℕ) : Type 0 where
   pub at : LiveAt c k
   pub due : isDue (placeAt c k) ≡ true
-  pub period : placeAt c k .period .0 ≤ longestPeriod
   pub few : n < placesPerCell
   pub room : rowSize * n + rowSize ≤ length out
 
 -- place k was broadcast, row n says so, and r is 1 if that was the last time
 pub record Aired (c out : List ℕ) (k n : ℕ) (c′ out′ : List ℕ) (r : ℕ) : Type 0 where
   pub cell : c′ ≡ withPlaces c (set (livePlaces c) k (later (placeAt c k)))
-  pub row : out′ ≡ sets out (rowSize * n) (rowBytes (rowOf (cellOf c) (toldOf (placeAt c k))))
+  pub row : out′ ≡ sets out (rowSize * n) (rowBytes (rowOf (cellOf current c) (toldOf (placeAt c k))))
   pub ended : r ≡ endings (later (placeAt c k) ∷ [])
   pub one : r ≤ 1
 

@@ -5,7 +5,7 @@ use mathlib.Core.List.{List, map, flatMap}
 use Prim.Native.Nat.{ℕ, _*_, _≤_}
 use lib.ListN.{length}
 use lib.Seq.{sets}
-use Rattle.rules.specs.Layout.{cellSize, rowSize}
+use Rattle.rules.specs.Layout.{current, cellSize, rowSize}
 use Rattle.rules.specs.Table.{placeBytes, cellOf, legalCell}
 use Rattle.rules.specs.Record.{writeReplace, kindAllows}
 use Rattle.rules.specs.InCell.{Told, Done, startsNothing, newPlace}
@@ -17,12 +17,12 @@ use Rattle.cell.specs.Places.{withPlaces}
 
 -- the bytes of the rows that a cell reports
 unfoldable pub rowsBytes : List ℕ → List Told → List ℕ
-rowsBytes c told = flatMap rowBytes (map (rowOf (cellOf c)) told)
+rowsBytes c told = flatMap rowBytes (map (rowOf (cellOf current c)) told)
 
 -- a legal cell, and room for so many rows
 pub record Ready (c out : List ℕ) (most : ℕ) : Type 0 where
-  pub size : length c ≡ cellSize
-  pub legal : legalCell c ≡ true
+  pub size : length c ≡ cellSize current
+  pub legal : legalCell current c ≡ true
   pub room : rowSize * most ≤ length out
 
 -- the cell has the places that the rule gives, and the rows stand at the start of the room for them
@@ -35,8 +35,8 @@ pub record Stepped (d : Done) (c out c′ out′ : List ℕ) (most n : ℕ) : Ty
 -- a Write-Replace that the zero rules do not stop, and the bytes of the place that it makes
 pub record StartIn (q : Request) (new : List ℕ) : Type 0 where
   pub starts : startsNothing q ≡ false
-  pub sound : soundPlace (newPlace q) ≡ true
-  pub new-place : new ≡ placeBytes (newPlace q)
+  pub sound : soundPlace current (newPlace q) ≡ true
+  pub new-place : new ≡ placeBytes current (newPlace q)
 
 -- a request of a known kind; if it is a Write-Replace, one that starts something
 pub record ToStep (q : Request) (new : List ℕ) : Type 0 where

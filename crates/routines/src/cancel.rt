@@ -8,7 +8,6 @@ use places::free_all;
 use rules::Broadcasts;
 use rules::Request;
 use rules::kind::CANCEL_ALL;
-ghost use mathlib.Core.Path.{_≡_};
 ghost use Rattle.rules.specs.InCell.{cancel, restart, failure};
 ghost use Rattle.cell.specs.Places.{livePlaces};
 ghost use Rattle.routines.specs.Step.{Ready, Stepped};

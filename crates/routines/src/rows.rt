@@ -10,7 +10,7 @@ ghost use mathlib.Core.Path.{_≡_};
 ghost use Prim.Native.Nat.{_+_, _≤_};
 ghost use lib.ListN.{length};
 ghost use lib.Seq.{sets};
-ghost use Rattle.rules.specs.Layout.{cellSize, rowSize};
+ghost use Rattle.rules.specs.Layout.{current, cellSize, rowSize};
 ghost use Rattle.rules.specs.InCell.{reported};
 ghost use Rattle.rules.specs.Answer.{rowBytes};
 ghost use Rattle.routines.specs.Step.{rowsBytes};
@@ -27,7 +27,7 @@ pub fn put_row(out: &mut [u8], at: usize, identity: u64, count: Broadcasts, cont
 
 // The one row of a cell that is reported with a count.
 pub fn report(cell: &[u8], count: Broadcasts, out: &mut [u8])
-    requires { ⌜ (length (now cell) ≡ cellSize) × (rowSize ≤ length (now out)) ⌝ }
+    requires { ⌜ (length (now cell) ≡ cellSize current) × (rowSize ≤ length (now out)) ⌝ }
     ensures { λ _. ⌜ now (out .exit) ≡ sets (now (out .entry)) 0 (rowsBytes (now (cell .entry)) (reported (count .0))) ⌝ }
 {
     let identity = identity(cell);

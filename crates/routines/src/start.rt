@@ -6,7 +6,6 @@ use places::free_all;
 use rules::Broadcasts;
 use rules::Request;
 use rules::layout::PLACES;
-ghost use mathlib.Core.Path.{_≡_};
 ghost use Rattle.rules.specs.InCell.{start};
 ghost use Rattle.cell.specs.Places.{livePlaces};
 ghost use Rattle.routines.specs.Step.{Ready, Stepped, StartIn};

@@ -8,7 +8,7 @@ use native.Mathlib.Omega.{arith}
 use lib.ListN.{length, take, length-map}
 use Rattle.octets.specs.Runs.{Bytes}
 use Rattle.octets.proofs.RunsLaws.{length-pieces, take-sets-front}
-use Rattle.rules.specs.Layout.{headerSize, headSize, cellSize}
+use Rattle.rules.specs.Layout.{current, headerSize, headSize, cellSize}
 use Rattle.rules.specs.Table.{cellsOf, tableBytes}
 use Rattle.rules.specs.Refusals.{tableVerdict, headCount, headRuns, legalHeads, buildVerdict}
 use Rattle.rules.specs.Applied.{fill, emptyCell, built}
@@ -21,7 +21,7 @@ use Rattle.rules.proofs.TableCodec.{heads-sound, table-legal, table-aga
 
 pub record AcceptedHeads (heads : List ℕ) (room : ℕ) : Type 0 where
   pub legal : legalHeads heads ≡ true
-  pub enough : headerSize + cellSize * headCount heads ≤ room
+  pub enough : headerSize + cellSize current * headCount heads ≤ room
 
 pub heads-accepted : (heads : List ℕ) (room : ℕ) → buildVerdict heads room ≡ Accepted → AcceptedHeads heads room
 unfolding buildVerdict
@@ -29,25 +29,25 @@ heads-accepted heads room e =
     let a = then-accepted _ _ e in
     record {
       legal = unless-accepted (legalHeads heads) BadHeads (a .0);
-      enough = leb-true (headerSize + cellSize * headCount heads) room (unless-accepted _ ShortBuffer (a .1));
+      enough = leb-true (headerSize + cellSize current * headCount heads) room (unless-accepted _ ShortBuffer (a .1));
     }
 
-pub length-built : (heads : List ℕ) → length (tableBytes (map emptyCell (headRuns heads))) ≡ headerSize + cellSize * headCount heads
+pub length-built : (heads : List ℕ) → length (tableBytes current (map emptyCell (headRuns heads))) ≡ headerSize + cellSize current * headCount heads
 length-built heads =
-    rw (length-tableBytes (map emptyCell (headRuns heads)), length-map (headRuns heads) emptyCell, length-pieces headSize (headCount heads) heads)
+    rw (length-tableBytes current (map emptyCell (headRuns heads)), length-map (headRuns heads) emptyCell, length-pieces headSize (headCount heads) heads)
 
 module _ (heads buffer : List ℕ) (b : Bytes heads) (e : built heads buffer .number ≡ 0) where
   accepted : AcceptedHeads heads (length buffer)
   accepted = heads-accepted heads (length buffer) (built-accepted heads buffer e)
 
-  pub built-bytes : take (built heads buffer .length) (built heads buffer .buffer) ≡ tableBytes (map emptyCell (headRuns heads))
+  pub built-bytes : take (built heads buffer .length) (built heads buffer .buffer) ≡ tableBytes current (map emptyCell (headRuns heads))
   unfolding built fill
   built-bytes =
       rw (built-accepted heads buffer e)
-      (take-sets-front buffer (tableBytes (map emptyCell (headRuns heads))) (omega (arith, length-built heads, accepted .enough)))
+      (take-sets-front buffer (tableBytes current (map emptyCell (headRuns heads))) (omega (arith, length-built heads, accepted .enough)))
 
-  pub built-legal : tableVerdict (take (built heads buffer .length) (built heads buffer .buffer)) ≡ Accepted
-  built-legal = rw built-bytes (table-legal _ (heads-sound heads b (accepted .legal)))
+  pub built-legal : tableVerdict current (take (built heads buffer .length) (built heads buffer .buffer)) ≡ Accepted
+  built-legal = rw built-bytes (table-legal current _ (heads-sound current heads b (accepted .legal)))
 
-  pub built-cells : cellsOf (take (built heads buffer .length) (built heads buffer .buffer)) ≡ map emptyCell (headRuns heads)
-  built-cells = rw built-bytes (table-again _ (heads-sound heads b (accepted .legal)))
+  pub built-cells : cellsOf current (take (built heads buffer .length) (built heads buffer .buffer)) ≡ map emptyCell (headRuns heads)
+  built-cells = rw built-bytes (table-again current _ (heads-sound current heads b (accepted .legal)))

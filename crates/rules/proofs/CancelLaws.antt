@@ -7,6 +7,7 @@ use Prim.Native.Nat.{ℕ, _+_, _≤_}
 use native.Mathlib.Omega.{arith}
 use lib.ListN.{length}
 use Rattle.rules.specs.Lists.{any, those}
+use Rattle.rules.specs.Layout.{Version}
 use Rattle.rules.specs.Table.{isText, running, different}
 use Rattle.rules.specs.Record.{cancelAll}
 use Rattle.rules.specs.Sound.{soundPlace, soundPlaces}
@@ -17,24 +18,25 @@ use Rattle.rules.proofs.ListsLaws.{cond-either, by-test, or-else, every
 use Rattle.rules.proofs.PlaceLaws.{text-facts, different-parts, keeps-cond}
 use Rattle.rules.proofs.SoundPlaceLaws.{none-sound, keeps-sound}
 
--- ---- the places that are left
+module _ (v : Version) where
+  -- ---- the places that are left
 
-pub those-sound : (f : Place → Bool) (ps : List Place) → soundPlaces ps ≡ true → soundPlaces (those f ps) ≡ true
-unfolding those
-those-sound f = keeps-sound _ (λ p. keeps-cond (f p) p p refl refl) (λ p s. every-cond soundPlace (f p) p (λ e. s))
+  pub those-sound : (f : Place → Bool) (ps : List Place) → soundPlaces v ps ≡ true → soundPlaces v (those f ps) ≡ true
+  unfolding those
+  those-sound f = keeps-sound v _ (λ p. keeps-cond (f p) p p refl refl) (λ p s. every-cond (soundPlace v) (f p) p (λ e. s))
 
-pub cancel-sound : (q : Request) (ps : List Place) → soundPlaces ps ≡ true → soundPlaces (cancel q ps .places) ≡ true
-unfolding cancel
-cancel-sound q ps s =
-    cond-either (λ (d : Done). soundPlaces (d .places) ≡ true) (cancelAll q) _ _ (λ a. none-sound) (λ a. those-sound _ ps s)
+  pub cancel-sound : (q : Request) (ps : List Place) → soundPlaces v ps ≡ true → soundPlaces v (cancel q ps .places) ≡ true
+  unfolding cancel
+  cancel-sound q ps s =
+      cond-either (λ (d : Done). soundPlaces v (d .places) ≡ true) (cancelAll q) _ _ (λ a. none-sound v) (λ a. those-sound _ ps s)
 
-pub restart-sound : (ps : List Place) → soundPlaces (restart ps .places) ≡ true
-unfolding restart
-restart-sound ps = none-sound
+  pub restart-sound : (ps : List Place) → soundPlaces v (restart ps .places) ≡ true
+  unfolding restart
+  restart-sound ps = none-sound v
 
-pub failure-sound : (ps : List Place) → soundPlaces (failure ps .places) ≡ true
-unfolding failure
-failure-sound ps = none-sound
+  pub failure-sound : (ps : List Place) → soundPlaces v (failure ps .places) ≡ true
+  unfolding failure
+  failure-sound ps = none-sound v
 
 -- ---- rows
 

@@ -9,7 +9,7 @@ use lib.Dec.{eqb, ltb}
 use lib.ListN.{length}
 use borrow.Author.Tests.{eqb-true, eqb-false, lt-ltb}
 use Rattle.rules.specs.Lists.{every}
-use Rattle.rules.specs.Layout.{placesPerCell, mostSent}
+use Rattle.rules.specs.Layout.{Version, longestPeriod, placesPerCell, mostSent}
 use Rattle.rules.specs.Table.{isText}
 use Rattle.rules.specs.Record.{writeReplace, cancelOrKill, restartKind, failureKind, oneSecond, cancelAll}
 use Rattle.rules.specs.Sound.{soundPlace, soundPlaces, fitRequest}
@@ -70,29 +70,30 @@ inCell-by P q ps begins stops empties drops ages =
     cond-either P (eqb (q .kind) restartKind) _ _ (λ c. empties) λ c.
     cond-either P (eqb (q .kind) failureKind) _ _ (λ d. drops) (λ d. ages (only-second (q .kind) a b c d))
 
--- ---- an accepted request
+module _ (v : Version) where
+  -- ---- an accepted request
 
-module _ (q : Request) (items : List ℕ) (f : fitRequest q ≡ true) (v : requestVerdict q items ≡ Accepted) (ps : List Place) (s : soundPlaces ps ≡ true) where
-  pub inCell-sound : soundPlaces (inCell q ps .places) ≡ true
-  inCell-sound =
-      inCell-by (λ d. soundPlaces (d .places) ≡ true) q ps
-      (λ k. start-sound q items f (request-accepted q items v .limits) k ps s)
-      (cancel-sound q ps s)
-      (restart-sound ps)
-      (failure-sound ps)
-      (λ k. second-sound ps s)
+  module _ (q : Request) (items : List ℕ) (f : fitRequest q ≡ true) (e : requestVerdict (longestPeriod v) q items ≡ Accepted) (ps : List Place) (s : soundPlaces v ps ≡ true) where
+    pub inCell-sound : soundPlaces v (inCell q ps .places) ≡ true
+    inCell-sound =
+        inCell-by (λ d. soundPlaces v (d .places) ≡ true) q ps
+        (λ k. start-sound v q items f (request-accepted (longestPeriod v) q items e .limits) k ps s)
+        (cancel-sound v q ps s)
+        (restart-sound v ps)
+        (failure-sound v ps)
+        (λ k. second-sound v ps s)
 
-  -- the room that document 01 asks for is enough
-  pub inCell-few : length (inCell q ps .rows) ≤ rowsPerCell (q .kind)
-  inCell-few =
-      let h = places-facts ps s in
-      let one : 1 ≤ rowsPerCell (q .kind) = cond-either (λ n. 1 ≤ n) (eqb (q .kind) oneSecond) placesPerCell 1 (λ e. omega arith) (λ e. omega arith) in
-      inCell-by (λ d. length (d .rows) ≤ rowsPerCell (q .kind)) q ps
-      (λ k. omega (arith, start-few q ps))
-      (omega (arith, cancel-few q ps (h .apart)))
-      (omega (arith, restart-few ps))
-      (omega (arith, failure-few ps))
-      (λ k. rw (k (kind-known q (request-accepted q items v .kind))) (omega (arith, second-few ps)))
+    -- the room that document 01 asks for is enough
+    pub inCell-few : length (inCell q ps .rows) ≤ rowsPerCell (q .kind)
+    inCell-few =
+        let h = places-facts v ps s in
+        let one : 1 ≤ rowsPerCell (q .kind) = cond-either (λ n. 1 ≤ n) (eqb (q .kind) oneSecond) placesPerCell 1 (λ _. omega arith) (λ _. omega arith) in
+        inCell-by (λ d. length (d .rows) ≤ rowsPerCell (q .kind)) q ps
+        (λ k. omega (arith, start-few q ps))
+        (omega (arith, cancel-few q ps (h .apart)))
+        (omega (arith, restart-few ps))
+        (omega (arith, failure-few ps))
+        (λ k. rw (k (kind-known q (request-accepted (longestPeriod v) q items e .kind))) (omega (arith, second-few ps)))
 
 -- ---- the numbers of a row
 
@@ -113,19 +114,20 @@ zero-fits : AllFit (reported 0)
 unfolding every
 zero-fits = refl
 
--- rows of those places that a test picks
-picked-fit : (test : Place → Bool) (told : Place → Told) → ((p : Place) → SoundPlace p → toldFits (told p) ≡ true) → (ps : List Place) → soundPlaces ps ≡ true
-    → AllFit (flatMap (λ p. cond (test p) (told p ∷ []) []) ps)
-picked-fit test told k ps s =
-    every-flatMap _ soundPlace toldFits ps (λ p e. every-cond toldFits (test p) (told p) (λ t. k p (sound-facts p e))) (places-facts ps s .each)
+module _ (v : Version) where
+  -- rows of those places that a test picks
+  picked-fit : (test : Place → Bool) (told : Place → Told) → ((p : Place) → SoundPlace v p → toldFits (told p) ≡ true) → (ps : List Place) → soundPlaces v ps ≡ true
+      → AllFit (flatMap (λ p. cond (test p) (told p ∷ []) []) ps)
+  picked-fit test told k ps s =
+      every-flatMap _ (soundPlace v) toldFits ps (λ p e. every-cond toldFits (test p) (told p) (λ t. k p (sound-facts v p e))) (places-facts v ps s .each)
 
-pub inCell-rows-fit : (q : Request) (ps : List Place) → soundPlaces ps ≡ true → every toldFits (inCell q ps .rows) ≡ true
-unfolding cancel restart failure second
-inCell-rows-fit q ps s =
-    let Fit : Done → Type 0 = λ d. AllFit (d .rows) in
-    let live = live-rows AllFit none-fit zero-fits ps in
-    inCell-by Fit q ps (λ k. start-rows AllFit none-fit zero-fits q ps)
-    (cond-either Fit (cancelAll q) _ _ (λ a. live) (λ a. picked-fit (isText (q .identifier) (q .serial)) _ (λ p h. told-fits (p .sent .0) 0 (omega arith) (omega arith)) ps s))
-    zero-fits
-    live
-    (λ k. picked-fit isDue _ (λ p h. told-fits (later p .sent .0) (p .content) (later-most p (omega arith)) (h .content)) ps s)
+  pub inCell-rows-fit : (q : Request) (ps : List Place) → soundPlaces v ps ≡ true → every toldFits (inCell q ps .rows) ≡ true
+  unfolding cancel restart failure second
+  inCell-rows-fit q ps s =
+      let Fit : Done → Type 0 = λ d. AllFit (d .rows) in
+      let live = live-rows AllFit none-fit zero-fits ps in
+      inCell-by Fit q ps (λ k. start-rows AllFit none-fit zero-fits q ps)
+      (cond-either Fit (cancelAll q) _ _ (λ a. live) (λ a. picked-fit (isText (q .identifier) (q .serial)) _ (λ p h. told-fits (p .sent .0) 0 (omega arith) (omega arith)) ps s))
+      zero-fits
+      live
+      (λ k. picked-fit isDue _ (λ p h. told-fits (later p .sent .0) (p .content) (later-most p (omega arith)) (h .content)) ps s)

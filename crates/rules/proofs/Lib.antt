@@ -3,6 +3,7 @@ pub mod AllLaws
 pub mod JoinedLaws
 pub mod LayoutLaws
 pub mod RecordCodec
+pub mod RenewedLaws
 pub mod RecordTrips
 pub mod OutcomeLaws
 pub mod RoundTrips
@@ -24,6 +25,7 @@ pub mod StepLaws
 pub mod AppliedLaws
 pub mod BuiltLaws
 pub mod AppliedRuns
+pub mod ConvertedLaws
 pub mod ZerosLaws
 pub mod OffsetLaws
 pub mod FieldLaws

@@ -9,7 +9,7 @@ use Rattle.octets.specs.Runs.{gets}
 use Rattle.octets.specs.Numbers.{be}
 use Rattle.octets.specs.Fields.{numbers, offset}
 use Rattle.octets.proofs.FieldsLaws.{number-at}
-use Rattle.rules.specs.Layout.{field, headerFields, headFields, placeFields, headerSize, headSize, placeSize}
+use Rattle.rules.specs.Layout.{current, field, headerFields, headFields, placeFields, headerSize, headSize, placeSize}
 use Rattle.rules.specs.Table.{areasUsed, allAreas, cellCount}
 
 at-offset : (ws : List ℕ) (k : ℕ) (l : List ℕ) → k < length ws → offset ws k + getD ws k 0 ≤ length l
@@ -66,45 +66,45 @@ module _ (b : List ℕ) (long : length b ≡ headSize) where
       let e : be (gets b 21 3) ≡ field headFields 6 b = at-offset headFields 6 b (omega arith) (omega arith) in
       rw (a, c, d, e)
 
--- ---- a place
+-- ---- a place of the current version
 
-module _ (b : List ℕ) (long : length b ≡ placeSize) where
-  pub identifier-at : be (gets b 0 2) ≡ field placeFields 0 b
+module _ (b : List ℕ) (long : length b ≡ placeSize current) where
+  pub identifier-at : be (gets b 0 2) ≡ field (placeFields current) 0 b
   unfolding offset
-  identifier-at = at-offset placeFields 0 b (omega arith) (omega arith)
+  identifier-at = at-offset (placeFields current) 0 b (omega arith) (omega arith)
 
-  pub serial-at : be (gets b 2 2) ≡ field placeFields 1 b
+  pub serial-at : be (gets b 2 2) ≡ field (placeFields current) 1 b
   unfolding offset
-  serial-at = at-offset placeFields 1 b (omega arith) (omega arith)
+  serial-at = at-offset (placeFields current) 1 b (omega arith) (omega arith)
 
-  pub content-at : be (gets b 4 4) ≡ field placeFields 2 b
+  pub content-at : be (gets b 4 4) ≡ field (placeFields current) 2 b
   unfolding offset
-  content-at = at-offset placeFields 2 b (omega arith) (omega arith)
+  content-at = at-offset (placeFields current) 2 b (omega arith) (omega arith)
 
-  pub period-at : be (gets b 8 2) ≡ field placeFields 3 b
+  pub period-at : be (gets b 8 4) ≡ field (placeFields current) 3 b
   unfolding offset
-  period-at = at-offset placeFields 3 b (omega arith) (omega arith)
+  period-at = at-offset (placeFields current) 3 b (omega arith) (omega arith)
 
-  pub requested-at : be (gets b 10 2) ≡ field placeFields 4 b
+  pub requested-at : be (gets b 12 2) ≡ field (placeFields current) 4 b
   unfolding offset
-  requested-at = at-offset placeFields 4 b (omega arith) (omega arith)
+  requested-at = at-offset (placeFields current) 4 b (omega arith) (omega arith)
 
-  pub sent-at : be (gets b 12 2) ≡ field placeFields 5 b
+  pub sent-at : be (gets b 14 2) ≡ field (placeFields current) 5 b
   unfolding offset
-  sent-at = at-offset placeFields 5 b (omega arith) (omega arith)
+  sent-at = at-offset (placeFields current) 5 b (omega arith) (omega arith)
 
-  pub wait-at : be (gets b 14 2) ≡ field placeFields 6 b
+  pub wait-at : be (gets b 16 4) ≡ field (placeFields current) 6 b
   unfolding offset
-  wait-at = at-offset placeFields 6 b (omega arith) (omega arith)
+  wait-at = at-offset (placeFields current) 6 b (omega arith) (omega arith)
 
-  pub sib-at : be (gets b 16 1) ≡ field placeFields 7 b
+  pub sib-at : be (gets b 20 1) ≡ field (placeFields current) 7 b
   unfolding offset
-  sib-at = at-offset placeFields 7 b (omega arith) (omega arith)
+  sib-at = at-offset (placeFields current) 7 b (omega arith) (omega arith)
 
-  pub live-at : be (gets b 17 1) ≡ field placeFields 8 b
+  pub live-at : be (gets b 21 1) ≡ field (placeFields current) 8 b
   unfolding offset
-  live-at = at-offset placeFields 8 b (omega arith) (omega arith)
+  live-at = at-offset (placeFields current) 8 b (omega arith) (omega arith)
 
-  pub filling-at : be (gets b 18 2) ≡ field placeFields 9 b
+  pub filling-at : be (gets b 22 2) ≡ field (placeFields current) 9 b
   unfolding offset
-  filling-at = at-offset placeFields 9 b (omega arith) (omega arith)
+  filling-at = at-offset (placeFields current) 9 b (omega arith) (omega arith)

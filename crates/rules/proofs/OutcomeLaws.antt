@@ -5,9 +5,10 @@ use mathlib.Core.List.{List}
 use Prim.Native.Nat.{ℕ, _<_}
 use native.Mathlib.Omega.{arith}
 use lib.ListN.{length}
+use Rattle.rules.specs.Layout.{Version, current}
 use Rattle.rules.specs.Record.{requestOf, itemsOf}
-use Rattle.rules.specs.Refusals.{numberOf, recordVerdict, writeVerdict, applyVerdict, buildVerdict}
-use Rattle.rules.specs.Applied.{Filled, fill, built, written, noRequest, reading, readOf, outcome, applied}
+use Rattle.rules.specs.Refusals.{numberOf, recordVerdict, writeVerdict, applyVerdict, buildVerdict, convertVerdict}
+use Rattle.rules.specs.Applied.{fill, built, conversion, written, noRequest, reading, readOf, outcome, applied}
 use Rattle.rules.specs.declared.Request.{Request}
 use Rattle.rules.specs.declared.Refusal.{Refusal}
 use Rattle.rules.specs.declared.Refusal.the-variants.{TableMark, TableWrong, RecordMark, RecordLength, RecordFields, RecordLimits, CancelsNothing, ShortBuffer, BadHeads, ListDamaged, TooManySegments, NoSuchSegment}
@@ -49,6 +50,11 @@ module _ (heads buffer : List ℕ) where
   unfolding built
   built-refused h = fill-refused (buildVerdict heads (length buffer)) _ buffer h
 
+module _ (old buffer : List ℕ) where
+  pub conversion-refused : (conversion old buffer .number ≡ 0 → ⊥) → (conversion old buffer .length ≡ 0) × (conversion old buffer .buffer ≡ buffer)
+  unfolding conversion
+  conversion-refused h = fill-refused (convertVerdict old (length buffer)) _ buffer h
+
 module _ (q : Request) (items buffer : List ℕ) where
   pub written-accepted : written q items buffer .number ≡ 0 → writeVerdict q items (length buffer) ≡ Accepted
   unfolding written
@@ -71,34 +77,34 @@ reading-refused Accepted r h = absurd (h refl)
 reading-refused (Refused x) r h = (refl, refl)
 
 module _ (r : List ℕ) where
-  pub read-accepted : readOf r .number ≡ 0 → recordVerdict r ≡ Accepted
+  pub read-accepted : readOf r .number ≡ 0 → recordVerdict current r ≡ Accepted
   unfolding readOf
-  read-accepted e = reading-accepted (recordVerdict r) r e
+  read-accepted e = reading-accepted (recordVerdict current r) r e
 
   pub read-refused : (readOf r .number ≡ 0 → ⊥) → (readOf r .request ≡ noRequest) × (readOf r .items ≡ 0)
   unfolding readOf
-  read-refused h = reading-refused (recordVerdict r) r h
+  read-refused h = reading-refused (recordVerdict current r) r h
 
 -- ---- a request that is applied
 
-module _ (q : Request) (items t a : List ℕ) where
-  outcome-accepted : (v : Verdict) → outcome v q items t a .number ≡ 0 → v ≡ Accepted
+module _ (v : Version) (q : Request) (items t a : List ℕ) where
+  outcome-accepted : (d : Verdict) → outcome v d q items t a .number ≡ 0 → d ≡ Accepted
   unfolding outcome
   outcome-accepted Accepted e = refl
   outcome-accepted (Refused x) e = absurd (omega (arith, number-positive x))
 
-  outcome-refused : (v : Verdict) → (outcome v q items t a .number ≡ 0 → ⊥)
-      → (outcome v q items t a .length ≡ 0) × (outcome v q items t a .table ≡ t) × (outcome v q items t a .answer ≡ a)
+  outcome-refused : (d : Verdict) → (outcome v d q items t a .number ≡ 0 → ⊥)
+      → (outcome v d q items t a .length ≡ 0) × (outcome v d q items t a .table ≡ t) × (outcome v d q items t a .answer ≡ a)
   unfolding outcome
   outcome-refused Accepted h = absurd (h refl)
   outcome-refused (Refused x) h = (refl, refl, refl)
 
-module _ (t r a : List ℕ) where
-  pub applied-accepted : applied t r a .number ≡ 0 → applyVerdict t r (length a) ≡ Accepted
+module _ (v : Version) (t r a : List ℕ) where
+  pub applied-accepted : applied v t r a .number ≡ 0 → applyVerdict v t r (length a) ≡ Accepted
   unfolding applied
-  applied-accepted e = outcome-accepted (requestOf r) (itemsOf r) t a (applyVerdict t r (length a)) e
+  applied-accepted e = outcome-accepted v (requestOf r) (itemsOf r) t a (applyVerdict v t r (length a)) e
 
-  pub applied-refused : (applied t r a .number ≡ 0 → ⊥)
-      → (applied t r a .length ≡ 0) × (applied t r a .table ≡ t) × (applied t r a .answer ≡ a)
+  pub applied-refused : (applied v t r a .number ≡ 0 → ⊥)
+      → (applied v t r a .length ≡ 0) × (applied v t r a .table ≡ t) × (applied v t r a .answer ≡ a)
   unfolding applied
-  applied-refused h = outcome-refused (requestOf r) (itemsOf r) t a (applyVerdict t r (length a)) h
+  applied-refused h = outcome-refused v (requestOf r) (itemsOf r) t a (applyVerdict v t r (length a)) h

@@ -9,51 +9,52 @@ use lib.Dec.{eqb, ltb, leb}
 use lib.ListN.{length}
 use borrow.Author.Tests.{ltb-true, leb-true, eqb-true, eqb-false, not-true, lt-ltb, le-leb, eq-eqb, ne-eqb}
 use Rattle.rules.specs.Lists.{any, larger}
-use Rattle.rules.specs.Layout.{longestPeriod, firstSib, lastSib}
+use Rattle.rules.specs.Layout.{Version, longestPeriod, firstSib, lastSib}
 use Rattle.rules.specs.Table.{legalPlace, isText, running, different}
 use Rattle.rules.specs.declared.Place.{Place}
 use Rattle.rules.proofs.ListsLaws.{both, by-test, or-else, else-or, neither, any-append, any-flatMap, few-flatMap}
 
--- ---- a legal place
+module _ (v : Version) where
+  -- ---- a legal place
 
-pub record LegalPlace (p : Place) : Type 0 where
-  pub period : p .period .0 ≤ longestPeriod
-  pub once : p .period .0 ≡ 0 → p .requested .0 ≡ 1
-  pub wait : p .wait .0 < larger (p .period .0) 1
-  pub sent : (p .requested .0 ≡ 0 → ⊥) → p .sent .0 < p .requested .0
-  pub sib : (firstSib ≤ p .sib) × (p .sib ≤ lastSib)
+  pub record LegalPlace (p : Place) : Type 0 where
+    pub period : p .period .0 ≤ longestPeriod v
+    pub once : p .period .0 ≡ 0 → p .requested .0 ≡ 1
+    pub wait : p .wait .0 < larger (p .period .0) 1
+    pub sent : (p .requested .0 ≡ 0 → ⊥) → p .sent .0 < p .requested .0
+    pub sib : (firstSib ≤ p .sib) × (p .sib ≤ lastSib)
 
-pub legal-facts : (p : Place) → legalPlace p ≡ true → LegalPlace p
-unfolding legalPlace
-legal-facts p e =
-    let a = both _ (leb firstSib (p .sib) && leb (p .sib) lastSib) e in
-    let b = both _ (eqb (p .requested .0) 0 || ltb (p .sent .0) (p .requested .0)) (a .0) in
-    let c = both _ (ltb (p .wait .0) (larger (p .period .0) 1)) (b .0) in
-    let d = both (leb (p .period .0) longestPeriod) _ (c .0) in
-    let s = both (leb firstSib (p .sib)) (leb (p .sib) lastSib) (a .1) in
-    record {
-      period = leb-true (p .period .0) longestPeriod (d .0);
-      once = λ z. eqb-true (p .requested .0) 1 (or-else (not (eqb (p .period .0) 0)) _ (d .1) (ap not (eq-eqb (p .period .0) 0 z)));
-      wait = ltb-true (p .wait .0) (larger (p .period .0) 1) (c .1);
-      sent = λ n. ltb-true (p .sent .0) (p .requested .0) (or-else (eqb (p .requested .0) 0) _ (b .1) (ne-eqb (p .requested .0) 0 n));
-      sib = (leb-true firstSib (p .sib) (s .0), leb-true (p .sib) lastSib (s .1));
-    }
+  pub legal-facts : (p : Place) → legalPlace v p ≡ true → LegalPlace p
+  unfolding legalPlace
+  legal-facts p e =
+      let a = both _ (leb firstSib (p .sib) && leb (p .sib) lastSib) e in
+      let b = both _ (eqb (p .requested .0) 0 || ltb (p .sent .0) (p .requested .0)) (a .0) in
+      let c = both _ (ltb (p .wait .0) (larger (p .period .0) 1)) (b .0) in
+      let d = both (leb (p .period .0) (longestPeriod v)) _ (c .0) in
+      let s = both (leb firstSib (p .sib)) (leb (p .sib) lastSib) (a .1) in
+      record {
+        period = leb-true (p .period .0) (longestPeriod v) (d .0);
+        once = λ z. eqb-true (p .requested .0) 1 (or-else (not (eqb (p .period .0) 0)) _ (d .1) (ap not (eq-eqb (p .period .0) 0 z)));
+        wait = ltb-true (p .wait .0) (larger (p .period .0) 1) (c .1);
+        sent = λ n. ltb-true (p .sent .0) (p .requested .0) (or-else (eqb (p .requested .0) 0) _ (b .1) (ne-eqb (p .requested .0) 0 n));
+        sib = (leb-true firstSib (p .sib) (s .0), leb-true (p .sib) lastSib (s .1));
+      }
 
-pub facts-legal : (p : Place) → LegalPlace p → legalPlace p ≡ true
-unfolding legalPlace
-facts-legal p l =
-    let o : not (eqb (p .period .0) 0) || eqb (p .requested .0) 1 ≡ true =
-    by-test (eqb (p .period .0) 0) (λ z. rw (z, eq-eqb (p .requested .0) 1 (l .once (eqb-true (p .period .0) 0 z)))) (λ z. rw z) in
-    let s : eqb (p .requested .0) 0 || ltb (p .sent .0) (p .requested .0) ≡ true =
-    else-or (eqb (p .requested .0) 0) _ (λ n. lt-ltb (p .sent .0) (p .requested .0) (l .sent (eqb-false (p .requested .0) 0 n))) in
-    rw (
-      le-leb (p .period .0) longestPeriod (l .period),
-      o,
-      lt-ltb (p .wait .0) (larger (p .period .0) 1) (l .wait),
-      s,
-      le-leb firstSib (p .sib) (l .sib .0),
-      le-leb (p .sib) lastSib (l .sib .1),
-    )
+  pub facts-legal : (p : Place) → LegalPlace p → legalPlace v p ≡ true
+  unfolding legalPlace
+  facts-legal p l =
+      let o : not (eqb (p .period .0) 0) || eqb (p .requested .0) 1 ≡ true =
+      by-test (eqb (p .period .0) 0) (λ z. rw (z, eq-eqb (p .requested .0) 1 (l .once (eqb-true (p .period .0) 0 z)))) (λ z. rw z) in
+      let s : eqb (p .requested .0) 0 || ltb (p .sent .0) (p .requested .0) ≡ true =
+      else-or (eqb (p .requested .0) 0) _ (λ n. lt-ltb (p .sent .0) (p .requested .0) (l .sent (eqb-false (p .requested .0) 0 n))) in
+      rw (
+        le-leb (p .period .0) (longestPeriod v) (l .period),
+        o,
+        lt-ltb (p .wait .0) (larger (p .period .0) 1) (l .wait),
+        s,
+        le-leb firstSib (p .sib) (l .sib .0),
+        le-leb (p .sib) lastSib (l .sib .1),
+      )
 
 -- ---- a text
 

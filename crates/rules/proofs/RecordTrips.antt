@@ -1,68 +1,76 @@
 -- Demand 2 on records: what the writer accepts reads back as that request, items included; what the reader accepts is written as the same bytes.
 -- By the inverses of RecordCodec; each test of the reader is one of the writer, or holds of every record written.
-use mathlib.Core.Path.{_≡_, refl, sym, ap, _∙_}
-use mathlib.Core.Bool.{Bool, true, false, cond, not, _&&_, _||_}
-use mathlib.Core.List.{List, [], _∷_, _++_, flatMap, append-nil}
-use Prim.Native.Nat.{ℕ, zero, suc, _+_, _*_, _^_, _≤_, _<_}
+use mathlib.Core.Path.{_≡_}
+use mathlib.Core.Bool.{Bool, true, cond, not, _&&_, _||_}
+use mathlib.Core.List.{List, [], append-nil}
+use Prim.Native.Nat.{ℕ, zero, _+_, _*_, _^_, _≤_, _<_}
 use native.Mathlib.Omega.{arith}
 use lib.Dec.{eqb, ltb, leb}
 use lib.ListN.{length, getD, length-append}
 use borrow.Author.Tests.{ltb-true, leb-true, eqb-true, lt-ltb, le-leb, eq-eqb}
-use Rattle.octets.specs.Runs.{Bytes}
 use Rattle.octets.specs.Numbers.{toBe}
-use Rattle.octets.specs.Fields.{bytesOf, Fit}
+use Rattle.octets.specs.Fields.{Fit}
 use Rattle.octets.proofs.RunsLaws.{length-flatMap}
 use Rattle.octets.proofs.NumbersLaws.{length-toBe}
 use Rattle.octets.proofs.FieldsLaws.{length-bytesOf}
 use Rattle.rules.specs.Lists.{every}
-use Rattle.rules.specs.Layout.{field, recordFields, recordSize, itemSize, recordMark, recordVersion, mostItems, longestPeriod, firstSib, lastSib}
-use Rattle.rules.specs.Record.{writeReplace, cellArea, trackingArea, requestOf, requestNumbers, recordBytes, itemsOf, itemCount, zeroByte, recordMarked, itemEnd, withinLimits}
+use Rattle.rules.specs.Layout.{Version, version1, version2, current, field, recordFields, recordSize, itemSize, recordMark, mostItems, longestPeriod, firstSib, lastSib}
+use Rattle.rules.specs.Record.{writeReplace, cellArea, trackingArea, versionIn, takes, longestAsked, requestOf, requestNumbers, recordBytes, itemsOf, itemCount, zeroByte, recordMarked, itemEnd, withinLimits}
 use Rattle.rules.specs.Refusals.{refuseUnless, _then_, requestVerdict, recordVerdict, writeVerdict}
 use Rattle.rules.specs.Sound.{fits, fitRequest}
 use Rattle.rules.specs.declared.Request.{Request}
 use Rattle.rules.specs.declared.Refusal.the-variants.{RecordMark, RecordLength, RecordFields, ShortBuffer}
 use Rattle.rules.specs.declared.Verdict.the-variants.{Accepted}
-use Rattle.rules.proofs.ListsLaws.{both, and-true, cond-either}
+use Rattle.rules.proofs.ListsLaws.{both, cond-either}
 use Rattle.rules.proofs.AllLaws.{All, all-every, all-imply}
 use Rattle.rules.proofs.FitLaws.{fits-Fit}
 use Rattle.rules.proofs.LayoutLaws.{record-size}
-use Rattle.rules.proofs.VerdictLaws.{then-accepted, unless-accepted, AllowedRequest, request-accepted}
-use Rattle.rules.proofs.RecordCodec.{record-back, field-again, request-again, count-again, items-again}
+use Rattle.rules.proofs.VerdictLaws.{then-accepted, unless-accepted, request-accepted, allowed-longer}
+use Rattle.rules.proofs.RecordCodec.{field-again, request-again, items-again}
 
 -- ---- what acceptance gives
 
-pub record AcceptedRecord (r : List ℕ) : Type 0 where
+-- by a unit of a version
+pub record AcceptedRecord (v : Version) (r : List ℕ) : Type 0 where
   pub long : recordSize ≤ length r
   pub mark : field recordFields 0 r ≡ recordMark
-  pub version : field recordFields 1 r ≡ recordVersion
+  pub version : takes v (versionIn r) ≡ true
   pub few : itemCount r ≤ mostItems
   pub size : length r ≡ recordSize + itemSize * itemCount r
   pub zero : zeroByte r ≡ 0
-  pub request : requestVerdict (requestOf r) (itemsOf r) ≡ Accepted
+  pub request : requestVerdict (longestAsked r) (requestOf r) (itemsOf r) ≡ Accepted
 
-pub record-accepted : (r : List ℕ) → recordVerdict r ≡ Accepted → AcceptedRecord r
+pub record-accepted : (v : Version) (r : List ℕ) → recordVerdict v r ≡ Accepted → AcceptedRecord v r
 unfolding recordVerdict recordMarked
-record-accepted r e =
-    let m = then-accepted (refuseUnless (recordMarked r) RecordMark) _ e in
+record-accepted v r e =
+    let m = then-accepted (refuseUnless (recordMarked v r) RecordMark) _ e in
     let l = then-accepted (refuseUnless (leb (itemCount r) mostItems && eqb (length r) (recordSize + itemSize * itemCount r)) RecordLength) _ (m .1) in
     let z = then-accepted (refuseUnless (eqb (zeroByte r) 0) RecordFields) _ (l .1) in
-    let m₂ = both (leb recordSize (length r) && eqb (field recordFields 0 r) recordMark) (eqb (field recordFields 1 r) recordVersion) (unless-accepted (recordMarked r) RecordMark (m .0)) in
+    let m₂ = both (leb recordSize (length r) && eqb (field recordFields 0 r) recordMark) (takes v (versionIn r)) (unless-accepted (recordMarked v r) RecordMark (m .0)) in
     let m₁ = both (leb recordSize (length r)) (eqb (field recordFields 0 r) recordMark) (m₂ .0) in
     let l₁ = both (leb (itemCount r) mostItems) (eqb (length r) (recordSize + itemSize * itemCount r)) (unless-accepted _ RecordLength (l .0)) in
     record {
       long = leb-true recordSize (length r) (m₁ .0);
       mark = eqb-true (field recordFields 0 r) recordMark (m₁ .1);
-      version = eqb-true (field recordFields 1 r) recordVersion (m₂ .1);
+      version = m₂ .1;
       few = leb-true (itemCount r) mostItems (l₁ .0);
       size = eqb-true (length r) (recordSize + itemSize * itemCount r) (l₁ .1);
       zero = eqb-true (zeroByte r) 0 (unless-accepted (eqb (zeroByte r) 0) RecordFields (z .0));
       request = z .1;
     }
 
-pub accepted-record : (r : List ℕ) → AcceptedRecord r → recordVerdict r ≡ Accepted
+pub accepted-record : (v : Version) (r : List ℕ) → AcceptedRecord v r → recordVerdict v r ≡ Accepted
 unfolding recordVerdict recordMarked
-accepted-record r a =
-    rw (le-leb recordSize (length r) (a .long), eq-eqb _ _ (a .mark), eq-eqb _ _ (a .version), le-leb _ _ (a .few), eq-eqb _ _ (a .size), eq-eqb _ _ (a .zero)) (a .request)
+accepted-record v r a =
+    rw (le-leb recordSize (length r) (a .long), eq-eqb _ _ (a .mark), a .version, le-leb _ _ (a .few), eq-eqb _ _ (a .size), eq-eqb _ _ (a .zero)) (a .request)
+
+-- so no record asks for more than its unit allows
+asked : (v : Version) (n : ℕ) → takes v n ≡ true → cond (eqb n 1) (longestPeriod version1) (longestPeriod version2) ≤ longestPeriod v
+asked version1 n e = rw e (omega arith)
+asked version2 n e = cond-either (λ x. x ≤ longestPeriod version2) (eqb n 1) _ _ (λ _. omega arith) (λ _. omega arith)
+
+pub within-own : (v : Version) (r : List ℕ) → AcceptedRecord v r → requestVerdict (longestPeriod v) (requestOf r) (itemsOf r) ≡ Accepted
+within-own v r a = allowed-longer _ _ (requestOf r) (itemsOf r) (asked v (versionIn r) (a .version)) (a .request)
 
 -- ---- a request that is written
 
@@ -77,23 +85,23 @@ item-end area =
     cond-either (λ x. x ≤ 2 ^ 60) (eqb area trackingArea) _ _ (λ _. omega arith) λ _. omega arith
 
 -- an item within its area's limit fits its 8 bytes
-items-fit : (q : Request) (items : List ℕ) → withinLimits q items ≡ true → All (λ x. x < 256 ^ itemSize) items
+items-fit : (longest : ℕ) (q : Request) (items : List ℕ) → withinLimits longest q items ≡ true → All (λ x. x < 256 ^ itemSize) items
 unfolding withinLimits
-items-fit q items e =
-    let start : Bool = not (eqb (q .kind) writeReplace) || leb (q .period .0) longestPeriod && leb firstSib (q .sib) && leb (q .sib) lastSib in
+items-fit longest q items e =
+    let start : Bool = not (eqb (q .kind) writeReplace) || leb (q .period .0) longest && leb firstSib (q .sib) && leb (q .sib) lastSib in
     let h = both start (every (λ x. ltb x (itemEnd (q .area))) items) e in
     all-imply (λ x t. omega (arith, ltb-true x (itemEnd (q .area)) t, item-end (q .area))) (all-every (λ x. ltb x (itemEnd (q .area))) items (h .1))
 
 pub record AcceptedWriting (q : Request) (items : List ℕ) (room : ℕ) : Type 0 where
   pub few : length items ≤ mostItems
-  pub request : requestVerdict q items ≡ Accepted
+  pub request : requestVerdict (longestPeriod current) q items ≡ Accepted
   pub fits-in : recordSize + itemSize * length items ≤ room
 
 pub writing-accepted : (q : Request) (items : List ℕ) (room : ℕ) → writeVerdict q items room ≡ Accepted → AcceptedWriting q items room
 unfolding writeVerdict
 writing-accepted q items room e =
     let n = then-accepted (refuseUnless (leb (length items) mostItems) RecordLength) _ e in
-    let v = then-accepted (requestVerdict q items) _ (n .1) in
+    let v = then-accepted (requestVerdict (longestPeriod current) q items) _ (n .1) in
     record {
       few = leb-true (length items) mostItems (unless-accepted _ RecordLength (n .0));
       request = v .0;
@@ -123,22 +131,22 @@ module _ (q : Request) (items : List ℕ) (fit : fitRequest q ≡ true) (few : l
   own-request : requestOf (recordBytes q items) ≡ q
   own-request = rw append-nil at (request-again q items [] fit-head)
 
-  module _ (allowed : requestVerdict q items ≡ Accepted) where
+  module _ (allowed : requestVerdict (longestPeriod current) q items ≡ Accepted) where
     pub items-read : itemsOf (recordBytes q items) ≡ items
-    items-read = rw append-nil at (items-again q items [] fit-head (items-fit q items (request-accepted q items allowed .limits)))
+    items-read = rw append-nil at (items-again q items [] fit-head (items-fit (longestPeriod current) q items (request-accepted (longestPeriod current) q items allowed .limits)))
 
-    pub record-written : AcceptedRecord (recordBytes q items)
+    pub record-written : AcceptedRecord current (recordBytes q items)
     unfolding requestNumbers
     record-written =
         let n : itemCount (recordBytes q items) ≡ length items = own-field 12 in
         record {
           long = omega (arith, length-recordBytes);
           mark = own-field 0;
-          version = own-field 1;
+          version = rw (own-field 1);
           few = rw n few;
           size = rw n length-recordBytes;
           zero = own-field 11;
-          request = rw (own-request, items-read) allowed;
+          request = rw (own-field 1, own-request, items-read) allowed;
         }
 
     pub request-read : (requestOf (recordBytes q items) ≡ q) × (itemCount (recordBytes q items) ≡ length items)

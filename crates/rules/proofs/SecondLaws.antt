@@ -9,7 +9,7 @@ use lib.Dec.{ltb}
 use lib.ListN.{length}
 use borrow.Author.Tests.{ltb-true, eqb-false, not-true, ne-eqb}
 use Rattle.rules.specs.Lists.{larger}
-use Rattle.rules.specs.Layout.{mostSent}
+use Rattle.rules.specs.Layout.{Version, mostSent}
 use Rattle.rules.specs.Sound.{soundPlace, soundPlaces}
 use Rattle.rules.specs.InCell.{isDue, oneMore, withCounts, later, hasEnded, staysLive, second}
 use Rattle.rules.specs.declared.Place.{Place}
@@ -73,12 +73,12 @@ later-most p h =
 
 -- ---- one sound place
 
-with-sound : (p : Place) → soundPlace p ≡ true → (sent wait : ℕ) → sent ≤ mostSent → wait < larger (p .period .0) 1 → ((p .requested .0 ≡ 0 → ⊥) → sent < p .requested .0)
-    → soundPlace (withCounts p sent wait) ≡ true
+with-sound : (v : Version) → (p : Place) → soundPlace v p ≡ true → (sent wait : ℕ) → sent ≤ mostSent → wait < larger (p .period .0) 1 → ((p .requested .0 ≡ 0 → ⊥) → sent < p .requested .0)
+    → soundPlace v (withCounts p sent wait) ≡ true
 unfolding withCounts
-with-sound p e sent wait a b c =
-    let s = sound-facts p e in
-    facts-sound (withCounts p sent wait)
+with-sound v p e sent wait a b c =
+    let s = sound-facts v p e in
+    facts-sound v (withCounts p sent wait)
     (record {
       identifier = s .identifier;
       serial = s .serial;
@@ -92,24 +92,25 @@ not-ended : (p : Place) → hasEnded p ≡ false → (p .requested .0 ≡ 0 → 
 unfolding hasEnded
 not-ended p e n = eqb-false (p .sent .0) (p .requested .0) (rw (ne-eqb (p .requested .0) 0 n) at e)
 
-pub later-sound : (p : Place) → soundPlace p ≡ true → staysLive p ≡ true → soundPlace (later p) ≡ true
-unfolding staysLive withCounts
-later-sound p e l =
-    let s = sound-facts p e in
-    let a = larger-left (p .period .0) 1 in
-    let b = larger-right (p .period .0) 1 in
-    by-test (isDue p)
-    (λ d.
-    let on : hasEnded (broadcast p) ≡ false = not-true (hasEnded (broadcast p)) (rw (d, later-due p d) at l) in
-    let below : (p .requested .0 ≡ 0 → ⊥) → oneMore (p .sent .0) < p .requested .0 = λ n. omega (arith, s .legal .sent n, oneMore-next (p .sent .0), not-ended (broadcast p) on n) in
-    rw (later-due p d) (with-sound p e _ _ (oneMore-most (p .sent .0) (omega arith)) (omega arith) below))
-    (λ d. rw (later-waits p d) (with-sound p e _ _ (omega arith) (omega arith) (s .legal .sent)))
+module _ (v : Version) where
+  pub later-sound : (p : Place) → soundPlace v p ≡ true → staysLive p ≡ true → soundPlace v (later p) ≡ true
+  unfolding staysLive withCounts
+  later-sound p e l =
+      let s = sound-facts v p e in
+      let a = larger-left (p .period .0) 1 in
+      let b = larger-right (p .period .0) 1 in
+      by-test (isDue p)
+      (λ d.
+      let on : hasEnded (broadcast p) ≡ false = not-true (hasEnded (broadcast p)) (rw (d, later-due p d) at l) in
+      let below : (p .requested .0 ≡ 0 → ⊥) → oneMore (p .sent .0) < p .requested .0 = λ n. omega (arith, s .legal .sent n, oneMore-next (p .sent .0), not-ended (broadcast p) on n) in
+      rw (later-due p d) (with-sound v p e _ _ (oneMore-most (p .sent .0) (omega arith)) (omega arith) below))
+      (λ d. rw (later-waits p d) (with-sound v p e _ _ (omega arith) (omega arith) (s .legal .sent)))
 
--- ---- the cell
+  -- ---- the cell
 
-pub second-sound : (ps : List Place) → soundPlaces ps ≡ true → soundPlaces (second ps .places) ≡ true
-unfolding second
-second-sound = keeps-sound _ (λ p. keeps-cond (staysLive p) p (later p) (later-identifier p) (later-serial p)) (λ p s. every-cond soundPlace (staysLive p) (later p) (later-sound p s))
+  pub second-sound : (ps : List Place) → soundPlaces v ps ≡ true → soundPlaces v (second ps .places) ≡ true
+  unfolding second
+  second-sound = keeps-sound v _ (λ p. keeps-cond (staysLive p) p (later p) (later-identifier p) (later-serial p)) (λ p s. every-cond (soundPlace v) (staysLive p) (later p) (later-sound p s))
 
 pub second-few : (ps : List Place) → length (second ps .rows) ≤ length ps
 unfolding second

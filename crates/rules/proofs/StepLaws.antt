@@ -1,17 +1,18 @@
 -- One request on one cell: its head stays, a cell that is not reached stays whole, a sound cell stays sound, and the room asked for is enough.
 -- By the truth of `reaches`, then by the law of the rule in a cell.
-use mathlib.Core.Path.{_≡_, refl, sym, ap, _∙_}
-use mathlib.Core.Bool.{Bool, true, false, cond, _&&_}
-use mathlib.Core.List.{List, [], _∷_, _++_, map, flatMap, map-map}
-use Prim.Native.Nat.{ℕ, zero, suc, _+_, _*_, _≤_, _<_}
+use mathlib.Core.Path.{_≡_, refl, ap}
+use mathlib.Core.Bool.{Bool, true, false, cond}
+use mathlib.Core.List.{List, [], _∷_, map, flatMap}
+use Prim.Native.Nat.{ℕ, suc, _+_, _*_, _≤_}
 use native.Mathlib.Nat.{mul-suc}
 use native.Mathlib.Omega.{arith}
 use lib.ListN.{length, length-map, length-append}
-use Rattle.rules.specs.Lists.{every, ascending}
-use Rattle.rules.specs.Table.{Head, Cell}
+use Rattle.rules.specs.Lists.{every}
+use Rattle.rules.specs.Layout.{Version, longestPeriod}
+use Rattle.rules.specs.Table.{Cell}
 use Rattle.rules.specs.Reach.{reaches}
 use Rattle.rules.specs.InCell.{inCell}
-use Rattle.rules.specs.Answer.{Row, rowsPerCell}
+use Rattle.rules.specs.Answer.{rowsPerCell}
 use Rattle.rules.specs.Refusals.{requestVerdict}
 use Rattle.rules.specs.Applied.{stepCell, cellRows, rowOf}
 use Rattle.rules.specs.Sound.{fitRequest, soundHead, soundPlaces, soundCell, identityOfCell, soundCells}
@@ -65,42 +66,42 @@ module _ (q : Request) (items : List ℕ) where
 
   -- ---- sound cells stay sound
 
-  module _ (fit : fitRequest q ≡ true) (allowed : requestVerdict q items ≡ Accepted) where
-    pub step-sound : (c : Cell) → soundCell c ≡ true → soundCell (stepCell q items c) ≡ true
+  module _ (v : Version) (fit : fitRequest q ≡ true) (allowed : requestVerdict (longestPeriod v) q items ≡ Accepted) where
+    pub step-sound : (c : Cell) → soundCell v c ≡ true → soundCell v (stepCell q items c) ≡ true
     unfolding stepCell soundCell
     step-sound c s =
-        let h = both (soundHead (c .head)) (soundPlaces (c .places)) s in
-        cond-either (λ d. soundCell d ≡ true) (reaches (q .area) items (c .head)) _ _
-        (λ _. and-true (soundHead (c .head)) _ (h .0) (inCell-sound q items fit allowed (c .places) (h .1)))
+        let h = both (soundHead (c .head)) (soundPlaces v (c .places)) s in
+        cond-either (λ d. soundCell v d ≡ true) (reaches (q .area) items (c .head)) _ _
+        (λ _. and-true (soundHead (c .head)) _ (h .0) (inCell-sound v q items fit allowed (c .places) (h .1)))
         (λ _. s)
 
-    pub steps-sound : (cs : List Cell) → soundCells cs ≡ true → soundCells (map (stepCell q items) cs) ≡ true
+    pub steps-sound : (cs : List Cell) → soundCells v cs ≡ true → soundCells v (map (stepCell q items) cs) ≡ true
     steps-sound cs s =
-        let f = sound-cells cs s in
+        let f = sound-cells v cs s in
         let n : length (map (stepCell q items) cs) ≡ length cs = length-map cs (stepCell q items) in
-        cells-sound (map (stepCell q items) cs)
+        cells-sound v (map (stepCell q items) cs)
         (record {
           some = rw n (f .some);
           few = rw n (f .few);
-          each = all-map (λ c. soundCell c ≡ true) (stepCell q items) (all-imply step-sound (f .each));
+          each = all-map (λ c. soundCell v c ≡ true) (stepCell q items) (all-imply step-sound (f .each));
           order = rw (step-identities cs) (f .order);
         })
 
     -- ---- rows: at most one for each cell, or one for each place of a second
 
-    pub rows-few : (c : Cell) → soundCell c ≡ true → length (cellRows q items c) ≤ rowsPerCell (q .kind)
+    pub rows-few : (c : Cell) → soundCell v c ≡ true → length (cellRows q items c) ≤ rowsPerCell (q .kind)
     unfolding cellRows soundCell
     rows-few c s =
-        let h = both (soundHead (c .head)) (soundPlaces (c .places)) s in
+        let h = both (soundHead (c .head)) (soundPlaces v (c .places)) s in
         let told = inCell q (c .places) .rows in
         cond-either (λ l. length l ≤ rowsPerCell (q .kind)) (reaches (q .area) items (c .head)) (map (rowOf c) told) []
-        (λ _. rw (length-map told (rowOf c)) (inCell-few q items fit allowed (c .places) (h .1)))
+        (λ _. rw (length-map told (rowOf c)) (inCell-few v q items fit allowed (c .places) (h .1)))
         (λ _. omega arith)
 
-    pub all-rows-few : (cs : List Cell) → every soundCell cs ≡ true → length (flatMap (cellRows q items) cs) ≤ rowsPerCell (q .kind) * length cs
+    pub all-rows-few : (cs : List Cell) → every (soundCell v) cs ≡ true → length (flatMap (cellRows q items) cs) ≤ rowsPerCell (q .kind) * length cs
     unfolding every flatMap
     all-rows-few [] s = omega arith
     all-rows-few (c ∷ cs) s =
-        let h = both (soundCell c) (every soundCell cs) s in
+        let h = both (soundCell v c) (every (soundCell v) cs) s in
         let m : rowsPerCell (q .kind) * suc (length cs) ≡ rowsPerCell (q .kind) * length cs + rowsPerCell (q .kind) = mul-suc (rowsPerCell (q .kind)) (length cs) in
         rw (length-append, m) (omega (arith, rows-few c (h .0), all-rows-few cs (h .1)))

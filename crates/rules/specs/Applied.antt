@@ -1,19 +1,19 @@
 -- What each entry point leaves behind, whole: the number, the length and every byte of every lent buffer.
 use mathlib.Core.Bool.{cond}
-use mathlib.Core.List.{List, [], _∷_, map, flatMap}
+use mathlib.Core.List.{List, [], map, flatMap}
 use Prim.Native.Nat.{ℕ, _+_, _*_}
 use lib.Dec.{leb}
 use lib.ListN.{length}
 use lib.Seq.{sets}
 use Rattle.octets.specs.Runs.{gets}
 use Rattle.octets.specs.Numbers.{be}
-use Rattle.rules.specs.Layout.{recordSize, itemSize}
+use Rattle.rules.specs.Layout.{Version, version1, current, recordSize, itemSize}
 use Rattle.rules.specs.Table.{Cell, headOf, cellOf, cellBytes, cellsOf, tableBytes}
 use Rattle.rules.specs.Record.{requestOf, itemCount, itemsOf, recordBytes}
 use Rattle.rules.specs.Reach.{reaches}
 use Rattle.rules.specs.InCell.{Told, inCell}
 use Rattle.rules.specs.Answer.{Row, answerBytes}
-use Rattle.rules.specs.Refusals.{numberOf, answerNumber, answerLength, headRuns, recordVerdict, writeVerdict, applyVerdict, buildVerdict}
+use Rattle.rules.specs.Refusals.{numberOf, answerNumber, answerLength, headRuns, recordVerdict, writeVerdict, applyVerdict, buildVerdict, convertVerdict}
 use Rattle.rules.specs.declared.Request.{Request}
 use Rattle.rules.specs.declared.Answer.{Answer}
 use Rattle.rules.specs.declared.Reading.{Reading}
@@ -21,7 +21,7 @@ use Rattle.rules.specs.declared.Reading.the-variants.{Fields, Unread}
 use Rattle.rules.specs.declared.Verdict.{Verdict}
 use Rattle.rules.specs.declared.Verdict.the-variants.{Accepted, Refused}
 
--- ---- one buffer is filled: by the builder and by the record writer
+-- ---- one buffer is filled: by the builder, by the converter and by the record writer
 
 pub record Filled : Type 0 where
   pub number : ℕ
@@ -42,7 +42,14 @@ emptyCell b = record { head = headOf b; places = [] }
 
 -- "from cell heads back to back .. an empty table"
 unfoldable pub built : List ℕ → List ℕ → Filled
-built heads buffer = fill (buildVerdict heads (length buffer)) (tableBytes (map emptyCell (headRuns heads))) buffer
+built heads buffer = fill (buildVerdict heads (length buffer)) (tableBytes current (map emptyCell (headRuns heads))) buffer
+
+-- a version 1 table in the current layout: the same cells
+unfoldable pub converted : List ℕ → List ℕ
+converted old = tableBytes current (cellsOf version1 old)
+
+unfoldable pub conversion : List ℕ → List ℕ → Filled
+conversion old buffer = fill (convertVerdict old (length buffer)) (converted old) buffer
 
 unfoldable pub written : Request → List ℕ → List ℕ → Filled
 written q items buffer = fill (writeVerdict q items (length buffer)) (recordBytes q items) buffer
@@ -74,7 +81,7 @@ reading Accepted r = record { number = 0; request = requestOf r; items = itemCou
 reading (Refused x) r = record { number = numberOf x; request = noRequest; items = 0 }
 
 unfoldable pub readOf : List ℕ → ReadOutcome
-readOf r = reading (recordVerdict r) r
+readOf r = reading (recordVerdict current r) r
 
 -- what a reading says: document 01's number and values for each of its cases
 abbrev pub readBy : Reading → ReadOutcome
@@ -94,9 +101,9 @@ stepCell q items c =
     cond (reaches (q .area) items (c .head)) (record { head = c .head; places = inCell q (c .places) .places }) c
 
 -- the same of a cell's bytes: a reached cell is decoded, changed and encoded, any other keeps every byte
-unfoldable pub cellAfter : Request → List ℕ → List ℕ → List ℕ
-cellAfter q items c =
-    cond (reaches (q .area) items (cellOf c .head)) (cellBytes (stepCell q items (cellOf c))) c
+unfoldable pub cellAfter : Version → Request → List ℕ → List ℕ → List ℕ
+cellAfter v q items c =
+    cond (reaches (q .area) items (cellOf v c .head)) (cellBytes v (stepCell q items (cellOf v c))) c
 
 abbrev pub rowOf : Cell → Told → Row
 rowOf c x = record { identity = c .head .identity; count = x .count; content = x .content }
@@ -116,16 +123,16 @@ abbrev pub outcomeBy : Answer → List ℕ → List ℕ → Outcome
 outcomeBy x t a = record { number = answerNumber x; length = answerLength x; table = t; answer = a }
 
 -- refused: both buffers as they were; accepted: the cells after the rule, and the answer at the start of its buffer
-unfoldable pub outcome : Verdict → Request → List ℕ → List ℕ → List ℕ → Outcome
-outcome (Refused x) q items t a = record { number = numberOf x; length = 0; table = t; answer = a }
-outcome Accepted q items t a =
-    let bs = answerBytes q (flatMap (cellRows q items) (cellsOf t)) in
+unfoldable pub outcome : Version → Verdict → Request → List ℕ → List ℕ → List ℕ → Outcome
+outcome v (Refused x) q items t a = record { number = numberOf x; length = 0; table = t; answer = a }
+outcome v Accepted q items t a =
+    let bs = answerBytes q (flatMap (cellRows q items) (cellsOf v t)) in
     record {
       number = 0;
       length = length bs;
-      table = tableBytes (map (stepCell q items) (cellsOf t));
+      table = tableBytes v (map (stepCell q items) (cellsOf v t));
       answer = sets a 0 bs;
     }
 
-unfoldable pub applied : List ℕ → List ℕ → List ℕ → Outcome
-applied t r a = outcome (applyVerdict t r (length a)) (requestOf r) (itemsOf r) t a
+unfoldable pub applied : Version → List ℕ → List ℕ → List ℕ → Outcome
+applied v t r a = outcome v (applyVerdict v t r (length a)) (requestOf r) (itemsOf r) t a

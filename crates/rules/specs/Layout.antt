@@ -1,9 +1,8 @@
--- Every width, size, limit and mark of document 01, once. A layout is the list of its fields' widths, in order; offsets follow from it.
+-- Every width, size, limit and mark of documents 01 and 02, once. A layout is the list of its fields' widths, in order; offsets follow from it.
 use mathlib.Core.List.{List, [], _∷_}
 use Prim.Native.Nat.{ℕ, _+_, _*_, _^_}
 use lib.ListN.{getD}
-use Rattle.octets.specs.Numbers.{be}
-use Rattle.octets.specs.Fields.{size, numbers}
+use Rattle.octets.specs.Fields.{numbers}
 
 -- the number in field k
 unfoldable pub field : List ℕ → ℕ → List ℕ → ℕ
@@ -19,9 +18,32 @@ headerFields = 3 ∷ 2 ∷ 2 ∷ 1 ∷ 8 ∷ []
 abbrev pub headFields : List ℕ
 headFields = 8 ∷ 3 ∷ 1 ∷ 3 ∷ 3 ∷ 3 ∷ 3 ∷ []
 
+-- document 02, 3/13: two versions. Beside their number they differ in the bytes of a period and of a wait and in the longest period
+pub data Version : Type 0 where
+  version1 : Version
+  version2 : Version
+
+-- the one that is built, and that requests are applied to
+abbrev pub current : Version
+current = version2
+
+-- what stands in a header, and in a record
+abbrev pub versionNumber : Version → ℕ
+versionNumber version1 = 1
+versionNumber version2 = 2
+
+-- the bytes of a period and of a wait
+abbrev pub secondsSize : Version → ℕ
+secondsSize version1 = 2
+secondsSize version2 = 4
+
+abbrev pub longestPeriod : Version → ℕ
+longestPeriod version1 = 4095
+longestPeriod version2 = 131071
+
 -- message identifier; serial number; content; period; requested; sent; wait; SIB kind; live; zero
-abbrev pub placeFields : List ℕ
-placeFields = 2 ∷ 2 ∷ 4 ∷ 2 ∷ 2 ∷ 2 ∷ 2 ∷ 1 ∷ 1 ∷ 2 ∷ []
+abbrev pub placeFields : Version → List ℕ
+placeFields v = 2 ∷ 2 ∷ 4 ∷ secondsSize v ∷ 2 ∷ 2 ∷ secondsSize v ∷ 1 ∷ 1 ∷ 2 ∷ []
 
 abbrev pub placesPerCell : ℕ
 placesPerCell = 4
@@ -35,24 +57,19 @@ headerSize = 16
 abbrev pub headSize : ℕ
 headSize = 24
 
-abbrev pub placeSize : ℕ
-placeSize = 20
+abbrev pub placeSize : Version → ℕ
+placeSize version1 = 20
+placeSize version2 = 24
 
-abbrev pub cellSize : ℕ
-cellSize = headSize + placesPerCell * placeSize
+abbrev pub cellSize : Version → ℕ
+cellSize v = headSize + placesPerCell * placeSize v
 
 -- "PWT"
 abbrev pub tableMark : ℕ
 tableMark = 0x505754
 
-abbrev pub tableVersion : ℕ
-tableVersion = 1
-
 abbrev pub mostCells : ℕ
 mostCells = 512
-
-abbrev pub longestPeriod : ℕ
-longestPeriod = 4095
 
 -- a count of broadcasts stays here
 abbrev pub mostSent : ℕ
@@ -84,8 +101,9 @@ itemSize = 8
 abbrev pub recordMark : ℕ
 recordMark = 0x505752
 
+-- what the writer writes
 abbrev pub recordVersion : ℕ
-recordVersion = 1
+recordVersion = versionNumber current
 
 abbrev pub mostItems : ℕ
 mostItems = 512

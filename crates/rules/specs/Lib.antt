@@ -9,4 +9,6 @@ pub mod Answer
 pub mod Refusals
 pub mod Applied
 pub mod Sound
+pub mod ByHand
 pub mod Samples
+pub mod ChangeSamples

@@ -1,14 +1,14 @@
 -- Document 01, "The request record": what its bytes say, the bytes of a request with its items, and which requests are allowed.
-use mathlib.Core.Bool.{Bool, true, false, cond, not, _&&_, _||_}
+use mathlib.Core.Bool.{Bool, false, cond, not, _&&_, _||_}
 use mathlib.Core.List.{List, [], _∷_, _++_, map, flatMap}
-use Prim.Native.Nat.{ℕ, _+_, _*_, _/_, _%_}
+use Prim.Native.Nat.{ℕ, _+_, _/_, _%_}
 use lib.Dec.{eqb, ltb, leb}
-use lib.ListN.{length, drop}
+use lib.ListN.{length, take, drop}
 use Rattle.octets.specs.Runs.{pieces}
 use Rattle.octets.specs.Numbers.{be, toBe}
 use Rattle.octets.specs.Fields.{bytesOf}
 use Rattle.rules.specs.Lists.{every, zeros, oneOf}
-use Rattle.rules.specs.Layout.{field, recordFields, recordSize, itemSize, recordMark, recordVersion, longestPeriod, firstSib, lastSib, primarySib, cellEnd, trackingEnd, emergencyEnd}
+use Rattle.rules.specs.Layout.{Version, version1, version2, longestPeriod, field, recordFields, recordSize, itemSize, recordMark, recordVersion, firstSib, lastSib, primarySib, cellEnd, trackingEnd, emergencyEnd}
 use Rattle.rules.specs.declared.Request.{Request}
 
 -- ---- kinds, areas, flags
@@ -101,9 +101,26 @@ requestNumbers q n =
 unfoldable pub recordBytes : Request → List ℕ → List ℕ
 recordBytes q items = bytesOf recordFields (requestNumbers q (length items)) ++ flatMap (toBe itemSize) items
 
-unfoldable pub recordMarked : List ℕ → Bool
-recordMarked r =
-    leb recordSize (length r) && eqb (field recordFields 0 r) recordMark && eqb (field recordFields 1 r) recordVersion
+-- the number of a record's version
+abbrev pub versionIn : List ℕ → ℕ
+versionIn r = field recordFields 1 r
+
+-- records of a version are taken by it and by later ones
+abbrev pub takes : Version → ℕ → Bool
+takes version1 n = eqb n 1
+takes version2 n = eqb n 1 || eqb n 2
+
+unfoldable pub recordMarked : Version → List ℕ → Bool
+recordMarked v r =
+    leb recordSize (length r) && eqb (field recordFields 0 r) recordMark && takes v (versionIn r)
+
+-- the same record in the version that the writer writes
+unfoldable pub renewed : List ℕ → List ℕ
+renewed r = take 3 r ++ (toBe 2 recordVersion ++ drop 5 r)
+
+-- what a record may ask for is said by its own version, whatever the table's
+abbrev pub longestAsked : List ℕ → ℕ
+longestAsked r = cond (eqb (versionIn r) 1) (longestPeriod version1) (longestPeriod version2)
 
 -- ---- the table of kinds
 
@@ -133,11 +150,11 @@ areaFits q n = cond (eqb (q .area) noArea) (eqb n 0) (not (eqb n 0))
 abbrev pub itemEnd : ℕ → ℕ
 itemEnd area = cond (eqb area cellArea) cellEnd (cond (eqb area trackingArea) trackingEnd emergencyEnd)
 
--- a Write-Replace has a period of at most 4095 and SIB kind 6 to 8; no item is too large for its area
-unfoldable pub withinLimits : Request → List ℕ → Bool
-withinLimits q items =
+-- a Write-Replace has a period that is not too long and SIB kind 6 to 8; no item is too large for its area
+unfoldable pub withinLimits : ℕ → Request → List ℕ → Bool
+withinLimits longest q items =
     (not (eqb (q .kind) writeReplace)
-    || leb (q .period .0) longestPeriod && leb firstSib (q .sib) && leb (q .sib) lastSib)
+    || leb (q .period .0) longest && leb firstSib (q .sib) && leb (q .sib) lastSib)
     && every (λ x. ltb x (itemEnd (q .area))) items
 
 -- "Cancel with neither flag 2 nor flag 4"

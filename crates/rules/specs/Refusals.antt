@@ -1,14 +1,14 @@
 -- Document 01's numbered refusals: when each is given, and in which order they are tested.
-use mathlib.Core.Bool.{Bool, true, false, cond, not, _&&_, _||_}
+use mathlib.Core.Bool.{Bool, true, false, not, _&&_}
 use mathlib.Core.List.{List, map}
 use Prim.Native.Nat.{ℕ, _+_, _*_, _/_, _%_}
-use lib.Dec.{eqb, ltb, leb}
+use lib.Dec.{eqb, leb}
 use lib.ListN.{length}
 use Rattle.octets.specs.Runs.{pieces}
 use Rattle.rules.specs.Lists.{every, ascending}
-use Rattle.rules.specs.Layout.{headerSize, headSize, cellSize, mostCells, recordSize, itemSize, mostItems}
+use Rattle.rules.specs.Layout.{Version, version1, versionNumber, current, longestPeriod, headerSize, headSize, cellSize, mostCells, recordSize, itemSize, mostItems}
 use Rattle.rules.specs.Table.{legalHead, identityAt, cellCount, tableMarked, legalTable}
-use Rattle.rules.specs.Record.{requestOf, zeroByte, itemCount, itemsOf, recordMarked, kindAllows, areaFits, withinLimits, cancelsNothing}
+use Rattle.rules.specs.Record.{longestAsked, requestOf, zeroByte, itemCount, itemsOf, recordMarked, kindAllows, areaFits, withinLimits, cancelsNothing}
 use Rattle.rules.specs.Answer.{roomFor}
 use Rattle.rules.specs.declared.Request.{Request}
 use Rattle.rules.specs.declared.Refusal.{Refusal}
@@ -60,36 +60,37 @@ Accepted then v = v
 Refused x then v = Refused x
 
 -- 1, 2
-unfoldable pub tableVerdict : List ℕ → Verdict
-tableVerdict t = refuseUnless (tableMarked t) TableMark then refuseUnless (legalTable t) TableWrong
+unfoldable pub tableVerdict : Version → List ℕ → Verdict
+tableVerdict v t =
+    refuseUnless (tableMarked (versionNumber v) t) TableMark then refuseUnless (legalTable v t) TableWrong
 
--- 5, 6, 7: what is asked of the fields and the items, read or to be written
-unfoldable pub requestVerdict : Request → List ℕ → Verdict
-requestVerdict q items =
+-- 5, 6, 7: what is asked of the fields and the items, read or to be written, under a longest period
+unfoldable pub requestVerdict : ℕ → Request → List ℕ → Verdict
+requestVerdict longest q items =
     refuseUnless (kindAllows q && areaFits q (length items)) RecordFields
-    then refuseUnless (withinLimits q items) RecordLimits
+    then refuseUnless (withinLimits longest q items) RecordLimits
     then refuseUnless (not (cancelsNothing q)) CancelsNothing
 
 -- 3 to 7
-unfoldable pub recordVerdict : List ℕ → Verdict
-recordVerdict r =
-    refuseUnless (recordMarked r) RecordMark
+unfoldable pub recordVerdict : Version → List ℕ → Verdict
+recordVerdict v r =
+    refuseUnless (recordMarked v r) RecordMark
     then refuseUnless (leb (itemCount r) mostItems && eqb (length r) (recordSize + itemSize * itemCount r)) RecordLength
     then refuseUnless (eqb (zeroByte r) 0) RecordFields
-    then requestVerdict (requestOf r) (itemsOf r)
+    then requestVerdict (longestAsked r) (requestOf r) (itemsOf r)
 
 -- 4 (n only), 5, 6, 7, 8
 unfoldable pub writeVerdict : Request → List ℕ → ℕ → Verdict
 writeVerdict q items room =
     refuseUnless (leb (length items) mostItems) RecordLength
-    then requestVerdict q items
+    then requestVerdict (longestPeriod current) q items
     then refuseUnless (leb (recordSize + itemSize * length items) room) ShortBuffer
 
 -- 1 to 8
-unfoldable pub applyVerdict : List ℕ → List ℕ → ℕ → Verdict
-applyVerdict t r room =
-    tableVerdict t
-    then recordVerdict r
+unfoldable pub applyVerdict : Version → List ℕ → List ℕ → ℕ → Verdict
+applyVerdict v t r room =
+    tableVerdict v t
+    then recordVerdict v r
     then refuseUnless (leb (roomFor (requestOf r .kind) (cellCount t)) room) ShortBuffer
 
 -- ---- building: 9, then 8
@@ -111,4 +112,11 @@ legalHeads heads =
 unfoldable pub buildVerdict : List ℕ → ℕ → Verdict
 buildVerdict heads room =
     refuseUnless (legalHeads heads) BadHeads
-    then refuseUnless (leb (headerSize + cellSize * headCount heads) room) ShortBuffer
+    then refuseUnless (leb (headerSize + cellSize current * headCount heads) room) ShortBuffer
+
+-- ---- converting a version 1 table: 1, 2, then 8
+
+unfoldable pub convertVerdict : List ℕ → ℕ → Verdict
+convertVerdict old room =
+    tableVerdict version1 old
+    then refuseUnless (leb (headerSize + cellSize current * cellCount old) room) ShortBuffer

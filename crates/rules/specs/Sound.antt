@@ -5,7 +5,7 @@ use Prim.Native.Nat.{ℕ, _^_}
 use lib.Dec.{ltb, leb}
 use lib.ListN.{length}
 use Rattle.rules.specs.Lists.{every, ascending}
-use Rattle.rules.specs.Layout.{headFields, placeFields, recordFields, placesPerCell, mostAreas, mostCells, cellEnd}
+use Rattle.rules.specs.Layout.{Version, headFields, placeFields, recordFields, placesPerCell, mostAreas, mostCells, cellEnd}
 use Rattle.rules.specs.Table.{Head, Cell, headNumbers, placeNumbers, legalPlace, different}
 use Rattle.rules.specs.Record.{requestNumbers}
 use Rattle.rules.specs.declared.Place.{Place}
@@ -25,22 +25,22 @@ soundHead h =
     && leb (length (h .areas)) mostAreas
     && ascending (h .areas)
 
-unfoldable pub soundPlace : Place → Bool
-soundPlace p = fits placeFields (placeNumbers p) && legalPlace p
+unfoldable pub soundPlace : Version → Place → Bool
+soundPlace v p = fits (placeFields v) (placeNumbers p) && legalPlace v p
 
-unfoldable pub soundPlaces : List Place → Bool
-soundPlaces ps = leb (length ps) placesPerCell && every soundPlace ps && different ps
+unfoldable pub soundPlaces : Version → List Place → Bool
+soundPlaces v ps = leb (length ps) placesPerCell && every (soundPlace v) ps && different ps
 
-unfoldable pub soundCell : Cell → Bool
-soundCell c = soundHead (c .head) && soundPlaces (c .places)
+unfoldable pub soundCell : Version → Cell → Bool
+soundCell v c = soundHead (c .head) && soundPlaces v (c .places)
 
 abbrev pub identityOfCell : Cell → ℕ
 identityOfCell c = c .head .identity
 
-unfoldable pub soundCells : List Cell → Bool
-soundCells cells =
+unfoldable pub soundCells : Version → List Cell → Bool
+soundCells v cells =
     (leb 1 (length cells) && leb (length cells) mostCells)
-    && every soundCell cells
+    && every (soundCell v) cells
     && ascending (map identityOfCell cells)
 
 -- the fields of a request fit a record's: what the types of `Request` say

@@ -1,5 +1,5 @@
 -- Document 01, "The table": what a cell is, what its bytes say, the bytes of a cell, and which bytes are a legal table.
-use mathlib.Core.Bool.{Bool, true, false, cond, not, _&&_, _||_}
+use mathlib.Core.Bool.{Bool, true, cond, not, _&&_, _||_}
 use mathlib.Core.List.{List, [], _∷_, _++_, map, flatMap}
 use Prim.Native.Nat.{ℕ, _+_, _*_}
 use lib.Dec.{eqb, ltb, leb}
@@ -7,7 +7,7 @@ use lib.ListN.{length, take, drop, replicate}
 use Rattle.octets.specs.Runs.{pieces}
 use Rattle.octets.specs.Fields.{numbers, bytesOf, filled}
 use Rattle.rules.specs.Lists.{every, any, zeros, ascending, larger}
-use Rattle.rules.specs.Layout.{field, headerFields, headFields, placeFields, placesPerCell, mostAreas, headerSize, headSize, placeSize, cellSize, tableMark, tableVersion, mostCells, longestPeriod, firstSib, lastSib, cellEnd}
+use Rattle.rules.specs.Layout.{Version, versionNumber, field, headerFields, headFields, placeFields, placesPerCell, mostAreas, headerSize, headSize, placeSize, cellSize, tableMark, mostCells, longestPeriod, firstSib, lastSib, cellEnd}
 use Rattle.rules.specs.declared.Place.{Place}
 
 -- ---- cells
@@ -54,19 +54,19 @@ legalHead b =
     && ascending (headOf b .areas)
     && zeros (drop (areasUsed b) (allAreas b))
 
--- ---- a place and its 20 bytes
+-- ---- a place and its bytes: 20, in version 2 24
 
-unfoldable pub placeOf : List ℕ → Place
-placeOf b =
+unfoldable pub placeOf : Version → List ℕ → Place
+placeOf v b =
     record {
-      identifier = field placeFields 0 b;
-      serial = field placeFields 1 b;
-      content = field placeFields 2 b;
-      period = record { 0 = field placeFields 3 b };
-      requested = record { 0 = field placeFields 4 b };
-      sent = record { 0 = field placeFields 5 b };
-      wait = record { 0 = field placeFields 6 b };
-      sib = field placeFields 7 b;
+      identifier = field (placeFields v) 0 b;
+      serial = field (placeFields v) 1 b;
+      content = field (placeFields v) 2 b;
+      period = record { 0 = field (placeFields v) 3 b };
+      requested = record { 0 = field (placeFields v) 4 b };
+      sent = record { 0 = field (placeFields v) 5 b };
+      wait = record { 0 = field (placeFields v) 6 b };
+      sib = field (placeFields v) 7 b;
     }
 
 unfoldable pub placeNumbers : Place → List ℕ
@@ -83,34 +83,34 @@ placeNumbers p =
     ∷ 0
     ∷ []
 
-unfoldable pub placeBytes : Place → List ℕ
-placeBytes p = bytesOf placeFields (placeNumbers p)
+unfoldable pub placeBytes : Version → Place → List ℕ
+placeBytes v p = bytesOf (placeFields v) (placeNumbers p)
 
-abbrev pub freeBytes : List ℕ
-freeBytes = replicate placeSize 0
+abbrev pub freeBytes : Version → List ℕ
+freeBytes v = replicate (placeSize v) 0
 
 -- "A free place is all zero."
 unfoldable pub isFree : List ℕ → Bool
 isFree b = zeros b
 
 -- live = 1, and zero in the last two bytes
-unfoldable pub isLive : List ℕ → Bool
-isLive b = eqb (field placeFields 8 b) 1 && eqb (field placeFields 9 b) 0
+unfoldable pub isLive : Version → List ℕ → Bool
+isLive v b = eqb (field (placeFields v) 8 b) 1 && eqb (field (placeFields v) 9 b) 0
 
 -- "Live places come first." Behind a free place all are free.
-unfoldable pub liveFirst : List (List ℕ) → Bool
-liveFirst [] = true
-liveFirst (b ∷ bs) = cond (isFree b) (every isFree bs) (isLive b && liveFirst bs)
+unfoldable pub liveFirst : Version → List (List ℕ) → Bool
+liveFirst v [] = true
+liveFirst v (b ∷ bs) = cond (isFree b) (every isFree bs) (isLive v b && liveFirst v bs)
 
 -- the live places
-unfoldable pub placesOf : List (List ℕ) → List Place
-placesOf [] = []
-placesOf (b ∷ bs) = cond (isFree b) [] (placeOf b ∷ placesOf bs)
+unfoldable pub placesOf : Version → List (List ℕ) → List Place
+placesOf v [] = []
+placesOf v (b ∷ bs) = cond (isFree b) [] (placeOf v b ∷ placesOf v bs)
 
--- period at most 4095; period 0 only with requested 1; wait below the larger of period and 1; sent below requested unless requested is 0; SIB kind 6 to 8
-unfoldable pub legalPlace : Place → Bool
-legalPlace p =
-    leb (p .period .0) longestPeriod
+-- period at most 4095, in version 2 at most 131,071; period 0 only with requested 1; wait below the larger of period and 1; sent below requested unless requested is 0; SIB kind 6 to 8
+unfoldable pub legalPlace : Version → Place → Bool
+legalPlace v p =
+    leb (p .period .0) (longestPeriod v)
     && (not (eqb (p .period .0) 0) || eqb (p .requested .0) 1)
     && ltb (p .wait .0) (larger (p .period .0) 1)
     && (eqb (p .requested .0) 0 || ltb (p .sent .0) (p .requested .0))
@@ -128,56 +128,57 @@ unfoldable pub different : List Place → Bool
 different [] = true
 different (p ∷ ps) = not (running (p .identifier) (p .serial) ps) && different ps
 
-unfoldable pub legalPlaces : List (List ℕ) → Bool
-legalPlaces bs = liveFirst bs && every legalPlace (placesOf bs) && different (placesOf bs)
+unfoldable pub legalPlaces : Version → List (List ℕ) → Bool
+legalPlaces v bs = liveFirst v bs && every (legalPlace v) (placesOf v bs) && different (placesOf v bs)
 
--- ---- a cell and its 104 bytes
+-- ---- a cell and its bytes: 104, in version 2 120
 
-abbrev pub placeRuns : List ℕ → List (List ℕ)
-placeRuns c = pieces placeSize placesPerCell (drop headSize c)
+abbrev pub placeRuns : Version → List ℕ → List (List ℕ)
+placeRuns v c = pieces (placeSize v) placesPerCell (drop headSize c)
 
-unfoldable pub cellOf : List ℕ → Cell
-cellOf c = record { head = headOf (take headSize c); places = placesOf (placeRuns c) }
+unfoldable pub cellOf : Version → List ℕ → Cell
+cellOf v c = record { head = headOf (take headSize c); places = placesOf v (placeRuns v c) }
 
 -- the live places first, then free ones
-unfoldable pub placesBytes : List Place → List ℕ
-placesBytes ps = flatMap (λ b. b) (filled placesPerCell freeBytes (map placeBytes ps))
+unfoldable pub placesBytes : Version → List Place → List ℕ
+placesBytes v ps = flatMap (λ b. b) (filled placesPerCell (freeBytes v) (map (placeBytes v) ps))
 
-unfoldable pub cellBytes : Cell → List ℕ
-cellBytes c = headBytes (c .head) ++ placesBytes (c .places)
+unfoldable pub cellBytes : Version → Cell → List ℕ
+cellBytes v c = headBytes (c .head) ++ placesBytes v (c .places)
 
-unfoldable pub legalCell : List ℕ → Bool
-legalCell c = legalHead (take headSize c) && legalPlaces (placeRuns c)
+unfoldable pub legalCell : Version → List ℕ → Bool
+legalCell v c = legalHead (take headSize c) && legalPlaces v (placeRuns v c)
 
 -- ---- a whole table
 
 abbrev pub cellCount : List ℕ → ℕ
 cellCount t = field headerFields 2 t
 
-abbrev pub cellRuns : List ℕ → List (List ℕ)
-cellRuns t = pieces cellSize (cellCount t) (drop headerSize t)
+abbrev pub cellRuns : Version → List ℕ → List (List ℕ)
+cellRuns v t = pieces (cellSize v) (cellCount t) (drop headerSize t)
 
-unfoldable pub cellsOf : List ℕ → List Cell
-cellsOf t = map cellOf (cellRuns t)
+unfoldable pub cellsOf : Version → List ℕ → List Cell
+cellsOf v t = map (cellOf v) (cellRuns v t)
 
-unfoldable pub headerBytes : ℕ → List ℕ
-headerBytes n = bytesOf headerFields (tableMark ∷ tableVersion ∷ n ∷ placesPerCell ∷ 0 ∷ [])
+unfoldable pub headerBytes : Version → ℕ → List ℕ
+headerBytes v n = bytesOf headerFields (tableMark ∷ versionNumber v ∷ n ∷ placesPerCell ∷ 0 ∷ [])
 
-unfoldable pub tableBytes : List Cell → List ℕ
-tableBytes cells = headerBytes (length cells) ++ flatMap cellBytes cells
+unfoldable pub tableBytes : Version → List Cell → List ℕ
+tableBytes v cells = headerBytes v (length cells) ++ flatMap (cellBytes v) cells
 
 abbrev pub identityAt : List ℕ → ℕ
 identityAt b = headOf (take headSize b) .identity
 
-unfoldable pub tableMarked : List ℕ → Bool
-tableMarked t = leb 5 (length t) && eqb (field headerFields 0 t) tableMark && eqb (field headerFields 1 t) tableVersion
+-- the mark, and the version by its number
+unfoldable pub tableMarked : ℕ → List ℕ → Bool
+tableMarked n t = leb 5 (length t) && eqb (field headerFields 0 t) tableMark && eqb (field headerFields 1 t) n
 
 -- 1 to 512 cells; the byte 4; zeros; the exact length; legal cells, strictly ascending by NR CGI
-unfoldable pub legalTable : List ℕ → Bool
-legalTable t =
+unfoldable pub legalTable : Version → List ℕ → Bool
+legalTable v t =
     (leb 1 (cellCount t) && leb (cellCount t) mostCells)
     && eqb (field headerFields 3 t) placesPerCell
     && eqb (field headerFields 4 t) 0
-    && eqb (length t) (headerSize + cellSize * cellCount t)
-    && every legalCell (cellRuns t)
-    && ascending (map identityAt (cellRuns t))
+    && eqb (length t) (headerSize + cellSize v * cellCount t)
+    && every (legalCell v) (cellRuns v t)
+    && ascending (map identityAt (cellRuns v t))

@@ -6,7 +6,7 @@ pub const HEADER: usize = 16;
 
 pub const HEAD: usize = 24;
 
-pub const PLACE: usize = 20;
+pub const PLACE: usize = 24;
 
 pub const PLACES: usize = 4;
 
@@ -14,7 +14,7 @@ pub const CELL: usize = HEAD + PLACES * PLACE;
 
 pub const MOST_CELLS: usize = 512;
 
-pub const TABLE_VERSION: u16 = 1;
+pub const TABLE_VERSION: u8 = 2;
 
 // "PWT" as a number.
 pub const TABLE_MARK: u32 = 0x505754;
@@ -45,19 +45,19 @@ pub const CONTENT_AT: usize = 4;
 
 pub const PERIOD_AT: usize = 8;
 
-pub const REQUESTED_AT: usize = 10;
+pub const REQUESTED_AT: usize = 12;
 
-pub const SENT_AT: usize = 12;
+pub const SENT_AT: usize = 14;
 
-pub const WAIT_AT: usize = 14;
+pub const WAIT_AT: usize = 16;
 
-pub const SIB_AT: usize = 16;
+pub const SIB_AT: usize = 20;
 
-pub const LIVE_AT: usize = 17;
+pub const LIVE_AT: usize = 21;
 
-pub const FILLING_AT: usize = 18;
+pub const FILLING_AT: usize = 22;
 
-pub const LONGEST_PERIOD: u32 = 4095;
+pub const LONGEST_PERIOD: u32 = 131071;
 
 pub const MOST_SENT: u16 = 65535;
 
@@ -68,6 +68,21 @@ pub const LAST_SIB: u8 = 8;
 // An earthquake primary's.
 pub const PRIMARY_SIB: u8 = 6;
 
+// ---- version 1: its records are still taken, and its tables converted
+
+pub const VERSION_1: u8 = 1;
+
+pub const PLACE_1: usize = 20;
+
+pub const CELL_1: usize = HEAD + PLACES * PLACE_1;
+
+// Offsets in a place that are others in the current one.
+pub const WAIT_1_AT: usize = 14;
+
+pub const SIB_1_AT: usize = 16;
+
+pub const LONGEST_PERIOD_1: u32 = 4095;
+
 // ---- the request record
 
 pub const RECORD: usize = 26;
@@ -76,7 +91,7 @@ pub const ITEM: usize = 8;
 
 pub const MOST_ITEMS: usize = 512;
 
-pub const RECORD_VERSION: u16 = 1;
+pub const RECORD_VERSION: u8 = 2;
 
 // "PWR" as a number.
 pub const RECORD_MARK: u32 = 0x505752;

@@ -5,6 +5,7 @@ use mathlib.Core.Bool.{Bool}
 use mathlib.Core.List.{List}
 use Prim.Native.Nat.{ℕ}
 use Rattle.octets.proofs.Once.{one-outcome}
+use Rattle.rules.specs.Layout.{current}
 use Rattle.rules.specs.Table.{placeBytes}
 use Rattle.rules.specs.InCell.{startsNothing, newPlace}
 use Rattle.rules.specs.declared.Request.{Request}
@@ -13,5 +14,5 @@ module _ (q : Request) where
   pub starts-nothing-once : {a b : Bool} → a ≡ startsNothing q → b ≡ startsNothing q → a ≡ b
   starts-nothing-once = one-outcome
 
-  pub bytes-once : {a b : List ℕ} → a ≡ placeBytes (newPlace q) → b ≡ placeBytes (newPlace q) → a ≡ b
+  pub bytes-once : {a b : List ℕ} → a ≡ placeBytes current (newPlace q) → b ≡ placeBytes current (newPlace q) → a ≡ b
   bytes-once = one-outcome

@@ -7,8 +7,7 @@ use rules::Seconds;
 use rules::layout::PLACE;
 use rules::layout::PRIMARY_SIB;
 ghost use mathlib.Core.Path.{_≡_};
-ghost use Prim.Native.Nat.{_≤_};
-ghost use Rattle.rules.specs.Layout.{longestPeriod};
+ghost use Rattle.rules.specs.Layout.{current};
 ghost use Rattle.rules.specs.Table.{placeBytes};
 ghost use Rattle.rules.specs.InCell.{startsNothing, newPlace};
 
@@ -45,8 +44,7 @@ fn new_place(request: Request) -> Place
 
 // Made once for a request, and stored in each cell that has a place for it.
 pub fn new_bytes(request: Request) -> [u8; PLACE]
-    requires { ⌜ request .period .0 ≤ longestPeriod ⌝ }
-    ensures { λ r. ⌜ r ≡ placeBytes (newPlace request) ⌝ }
+    ensures { λ r. ⌜ r ≡ placeBytes current (newPlace request) ⌝ }
 {
     place_bytes(new_place(request))
 }

@@ -5,11 +5,12 @@ use mathlib.Core.Bool.{Bool}
 use mathlib.Core.List.{List}
 use Prim.Native.Nat.{ℕ}
 use Rattle.octets.proofs.Once.{one-outcome}
+use Rattle.rules.specs.Layout.{current}
 use Rattle.rules.specs.Table.{legalHead}
 use Rattle.rules.specs.Refusals.{tableVerdict}
 use Rattle.rules.specs.declared.Verdict.{Verdict}
 
-pub verdict-once : (t : List ℕ) {v w : Verdict} → v ≡ tableVerdict t → w ≡ tableVerdict t → v ≡ w
+pub verdict-once : (t : List ℕ) {v w : Verdict} → v ≡ tableVerdict current t → w ≡ tableVerdict current t → v ≡ w
 verdict-once t = one-outcome
 
 pub head-once : (head : List ℕ) {x y : Bool} → x ≡ legalHead head → y ≡ legalHead head → x ≡ y

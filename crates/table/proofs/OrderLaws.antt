@@ -17,7 +17,7 @@ use Rattle.octets.specs.Fields.{size}
 use Rattle.octets.proofs.RunsLaws.{gets-eq, gets-gets}
 use Rattle.octets.proofs.FieldsLaws.{numbers-take}
 use Rattle.rules.specs.Lists.{every, above, ascending}
-use Rattle.rules.specs.Layout.{field, headFields, headSize, cellEnd}
+use Rattle.rules.specs.Layout.{Version, field, headFields, headSize, cellEnd}
 use Rattle.rules.specs.Table.{Head, headOf, legalHead, legalCell, identityAt}
 use Rattle.rules.proofs.HeadCodec.{legal-head}
 use Rattle.rules.proofs.CellCodec.{legal-cell}
@@ -107,5 +107,5 @@ same-head b = rw (numbers-take headFields b headSize (omega arith))
 pub head-small : (b : List ℕ) → legalHead b ≡ true → identityAt b < cellEnd
 head-small b e = subst (λ (h : Head). h .identity < cellEnd) (sym (same-head b)) (legal-head b e .small)
 
-pub cell-small : (c : List ℕ) → legalCell c ≡ true → identityAt c < cellEnd
-cell-small c e = legal-head (take headSize c) (legal-cell c e .0) .small
+pub cell-small : (v : Version) (c : List ℕ) → legalCell v c ≡ true → identityAt c < cellEnd
+cell-small v c e = legal-head (take headSize c) (legal-cell v c e .0) .small

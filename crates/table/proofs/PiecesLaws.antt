@@ -1,6 +1,6 @@
 -- The last places of a cell written out, and what a walk over pieces lends in a turn.
 -- By `drop-drop`: where code writes places out, their pieces are written out too.
-use mathlib.Core.Path.{_≡_, sym, _∙_}
+use mathlib.Core.Path.{_≡_}
 use mathlib.Core.Bool.{Bool, _&&_, and-assoc, and-true}
 use mathlib.Core.List.{List}
 use Prim.Native.Nat.{ℕ, zero, suc, _+_, _*_, _-_, _≤_, _<_}
@@ -12,39 +12,32 @@ use Rattle.octets.specs.Runs.{gets, pieces}
 use Rattle.octets.proofs.RunsLaws.{gets-eq}
 use Rattle.rules.specs.Lists.{every}
 
--- ---- one to four places of 20 bytes, written out
+-- ---- one to four places, written out
 
-module _ (f : List ℕ → Bool) (l : List ℕ) (i left : ℕ) (fits : i + 20 * left ≤ length l) where
-  pub every-1 : left ≡ 1 → f (gets l i 20) ≡ every f (pieces 20 left (drop i l))
+module _ (f : List ℕ → Bool) (l : List ℕ) (i left : ℕ) (fits : i + 24 * left ≤ length l) where
+  pub every-1 : left ≡ 1 → f (gets l i 24) ≡ every f (pieces 24 left (drop i l))
   unfolding every pieces
-  every-1 e = rw (e, gets-eq 20 l i (omega arith), and-true)
+  every-1 e = rw (e, gets-eq 24 l i (omega arith), and-true)
 
-  pub every-2 : left ≡ 2 → f (gets l i 20) && f (gets l (i + 20) 20) ≡ every f (pieces 20 left (drop i l))
+  pub every-2 : left ≡ 2 → f (gets l i 24) && f (gets l (i + 24) 24) ≡ every f (pieces 24 left (drop i l))
   unfolding every pieces
   every-2 e =
-      rw (e, gets-eq 20 l i (omega arith), gets-eq 20 l (i + 20) (omega arith)) (simp (drop-drop, and-true))
+      rw (e, gets-eq 24 l i (omega arith), gets-eq 24 l (i + 24) (omega arith)) (simp (drop-drop, and-true))
 
-  pub every-3 : left ≡ 3 → f (gets l i 20) && f (gets l (i + 20) 20) && f (gets l (i + 40) 20) ≡ every f (pieces 20 left (drop i l))
+  pub every-3 : left ≡ 3 → f (gets l i 24) && f (gets l (i + 24) 24) && f (gets l (i + 48) 24) ≡ every f (pieces 24 left (drop i l))
   unfolding every pieces
   every-3 e =
-      let forty : i + 20 + 20 ≡ i + 40 = omega arith in
-      rw (e, gets-eq 20 l i (omega arith), gets-eq 20 l (i + 20) (omega arith), gets-eq 20 l (i + 40) (omega arith))
-      (simp (drop-drop, forty, and-true, and-assoc))
+      let third : i + 24 + 24 ≡ i + 48 = omega arith in
+      rw (e, gets-eq 24 l i (omega arith), gets-eq 24 l (i + 24) (omega arith), gets-eq 24 l (i + 48) (omega arith))
+      (simp (drop-drop, third, and-true, and-assoc))
 
-  pub every-4 : left ≡ 4 → f (gets l i 20) && f (gets l (i + 20) 20) && f (gets l (i + 40) 20) && f (gets l (i + 60) 20) ≡ every f (pieces 20 left (drop i l))
+  pub every-4 : left ≡ 4 → f (gets l i 24) && f (gets l (i + 24) 24) && f (gets l (i + 48) 24) && f (gets l (i + 72) 24) ≡ every f (pieces 24 left (drop i l))
   unfolding every pieces
   every-4 e =
-      let forty : i + 20 + 20 ≡ i + 40 = omega arith in
-      let sixty : i + 40 + 20 ≡ i + 60 = omega arith in
-      rw (e, gets-eq 20 l i (omega arith), gets-eq 20 l (i + 20) (omega arith), gets-eq 20 l (i + 40) (omega arith), gets-eq 20 l (i + 60) (omega arith))
-      (simp (drop-drop, forty, sixty, and-true, and-assoc))
-
-  -- four of them, asked two by two
-  pub every-pairs : left ≡ 4 → {x y : Bool} → x ≡ f (gets l i 20) && f (gets l (i + 20) 20) → y ≡ f (gets l (i + 40) 20) && f (gets l (i + 40 + 20) 20)
-      → x && y ≡ every f (pieces 20 left (drop i l))
-  every-pairs e p q =
-      let sixty : i + 40 + 20 ≡ i + 60 = omega arith in
-      rw (p, q, sixty) (sym (and-assoc (f (gets l i 20) && f (gets l (i + 20) 20)) (f (gets l (i + 40) 20)) (f (gets l (i + 60) 20))) ∙ every-4 e)
+      let third : i + 24 + 24 ≡ i + 48 = omega arith in
+      let fourth : i + 48 + 24 ≡ i + 72 = omega arith in
+      rw (e, gets-eq 24 l i (omega arith), gets-eq 24 l (i + 24) (omega arith), gets-eq 24 l (i + 48) (omega arith), gets-eq 24 l (i + 72) (omega arith))
+      (simp (drop-drop, third, fourth, and-true, and-assoc))
 
 -- ---- what is lent
 

@@ -1,9 +1,10 @@
--- What the judge's reads tell of the rules that they test: a free place by five wide reads, the emergency areas by their number, a head and a header by their parts.
+-- What the judge's reads tell of the rules that they test: a free place by three wide reads, the emergency areas by their number, a head and a header by their parts.
 -- Wide reads of zeros are joined by `zeros-run`; for the areas the definition computes once their number is known.
 use mathlib.Core.Path.{_≡_, refl, sym, ap, _∙_}
 use mathlib.Core.Bool.{Bool, false, _&&_, and-assoc, and-true, and-false}
 use mathlib.Core.List.{List, [], _∷_}
-use Prim.Native.Nat.{ℕ, _+_, _*_, _/_, _%_, _^_, _<_}
+use Prim.Native.Nat.{ℕ, _+_, _*_, _/_, _%_, _^_, _≤_, _<_}
+use native.Mathlib.Nat.{mul-le-mul-right}
 use native.Mathlib.Omega.{arith}
 use borrow.Author.Tests.{ne-eqb, lt-leb}
 use lib.Dec.{eqb, ltb}
@@ -13,7 +14,7 @@ use Rattle.octets.specs.Numbers.{be}
 use Rattle.octets.proofs.RunsLaws.{length-gets, bytes-gets}
 use Rattle.octets.proofs.NumbersLaws.{be-lt, be-run}
 use Rattle.rules.specs.Lists.{every, zeros, above, ascending}
-use Rattle.rules.specs.Layout.{headerSize, cellSize, cellEnd}
+use Rattle.rules.specs.Layout.{headerSize, cellEnd}
 use Rattle.rules.specs.Table.{headOf, areasUsed, allAreas, legalHead, isFree, cellCount}
 use Rattle.rules.proofs.ZerosLaws.{be-zero, zeros-run}
 use Rattle.table.specs.Judge.{legalAreas, legalHeader}
@@ -23,24 +24,12 @@ use Rattle.table.specs.Judge.{legalAreas, legalHeader}
 abbrev word : List ℕ → ℕ → ℕ
 word l i = be (gets l i 4)
 
-pub free-wide : (l : List ℕ) (i : ℕ)
-    → eqb (word l i) 0 && eqb (word l (i + 4)) 0 && eqb (word l (i + 8)) 0 && eqb (word l (i + 12)) 0 && eqb (word l (i + 16)) 0
-    ≡ isFree (gets l i 20)
-unfolding isFree
-free-wide l i =
-    simp be-zero
-    (rw (zeros-run 4 4 l i (i + 4) refl, zeros-run 8 4 l i (i + 8) refl, zeros-run 12 4 l i (i + 12) refl, zeros-run 16 4 l i (i + 16) refl))
-
 abbrev long : List ℕ → ℕ → ℕ
 long l i = be (gets l i 8)
 
-pub two-wide : (l : List ℕ) (i : ℕ)
-    → eqb (long l i) 0 && eqb (long l (i + 8)) 0 && eqb (long l (i + 16)) 0 && eqb (long l (i + 24)) 0 && eqb (long l (i + 32)) 0
-    ≡ isFree (gets l i 20) && isFree (gets l (i + 20) 20)
+pub free-wide : (l : List ℕ) (i : ℕ) → eqb (long l i) 0 && eqb (long l (i + 8)) 0 && eqb (long l (i + 16)) 0 ≡ isFree (gets l i 24)
 unfolding isFree
-two-wide l i =
-    simp be-zero
-    (rw (zeros-run 8 8 l i (i + 8) refl, zeros-run 16 8 l i (i + 16) refl, zeros-run 24 8 l i (i + 24) refl, zeros-run 32 8 l i (i + 32) refl, zeros-run 20 20 l i (i + 20) refl))
+free-wide l i = simp be-zero (rw (zeros-run 8 8 l i (i + 8) refl, zeros-run 16 8 l i (i + 16) refl))
 
 -- ---- the emergency areas, by their number
 
@@ -114,6 +103,10 @@ pub head-parts : (b : List ℕ) → ltb (headOf b .identity) cellEnd && legalAre
 unfolding legalHead legalAreas headOf
 head-parts b = simp and-assoc
 
-pub header-short : (t : List ℕ) → length t < headerSize → false ≡ legalHeader t
+pub header-short : (size : ℕ) (t : List ℕ) → length t < headerSize → false ≡ legalHeader size t
 unfolding legalHeader
-header-short t h = rw (ne-eqb (length t) (headerSize + cellSize * cellCount t) (λ e. omega arith), and-false)
+header-short size t h = rw (ne-eqb (length t) (headerSize + size * cellCount t) (λ e. omega arith), and-false)
+
+-- n cells of a bytes take no more than n of the largest
+pub cells-most : {a k n x : ℕ} → n ≡ x → a ≤ k → a * n ≤ k * n
+cells-most {n} e h = mul-le-mul-right n h

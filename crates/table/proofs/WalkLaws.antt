@@ -14,7 +14,7 @@ use Rattle.octets.proofs.RunsLaws.{length-gets, bytes-gets}
 use Rattle.octets.proofs.NumbersLaws.{be-lt, be-run}
 use Rattle.octets.proofs.FieldsLaws.{numbers-zeros}
 use Rattle.rules.specs.Lists.{every, any}
-use Rattle.rules.specs.Layout.{field, placeFields, placeSize, placesPerCell}
+use Rattle.rules.specs.Layout.{current, field, placeFields, placeSize, placesPerCell}
 use Rattle.rules.specs.Table.{placeOf, isFree, isLive, liveFirst, placesOf, legalPlace, isText, running, different, legalPlaces}
 use Rattle.rules.specs.declared.Place.{Place}
 use Rattle.rules.proofs.ListsLaws.{both, by-test, cond-either, zeros-replicate}
@@ -37,12 +37,12 @@ Small p = p .serial < 65536
 be-small : (n i : ℕ) (b : List ℕ) → Bytes b → be (gets b i n) < 256 ^ n
 be-small n i b h = rw length-gets at (be-lt (gets b i n) (bytes-gets n b i h))
 
-module _ (b : List ℕ) (run : PlaceRun b) where
-  text-of : textAt b ≡ textOf (placeOf b)
+module _ (b : List ℕ) (run : PlaceRun current b) where
+  text-of : textAt b ≡ textOf (placeOf current b)
   unfolding placeOf
   text-of = rw (← identifier-at b (run .1), ← serial-at b (run .1)) (sym (be-run 2 2 b 0 2 refl))
 
-  small : Small (placeOf b)
+  small : Small (placeOf current b)
   unfolding placeOf
   small = rw (← serial-at b (run .1)) (be-small 2 2 b (run .0))
 
@@ -92,23 +92,23 @@ apart-more p ks h (more {x = q} {xs = ps} s ss) =
     turn false false true a = refl
     turn false false false a = refl
 
-small-places : {bs : List (List ℕ)} → All PlaceRun bs → All Small (placesOf bs)
+small-places : {bs : List (List ℕ)} → All (PlaceRun current) bs → All Small (placesOf current bs)
 unfolding placesOf
 small-places none = none
-small-places (more {x = b} {xs = bs} r rs) = cond-either (All Small) (isFree b) [] (placeOf b ∷ placesOf bs) (λ e. none) (λ e. more (small b r) (small-places rs))
+small-places (more {x = b} {xs = bs} r rs) = cond-either (All Small) (isFree b) [] (placeOf current b ∷ placesOf current bs) (λ e. none) (λ e. more (small b r) (small-places rs))
 
 -- ---- the live byte
 
 abbrev pub liveByte : List ℕ → ℕ
-liveByte b = field placeFields 8 b
+liveByte b = field (placeFields current) 8 b
 
-zero-not-live : (b : List ℕ) → liveByte b ≡ 0 → isLive b ≡ false
+zero-not-live : (b : List ℕ) → liveByte b ≡ 0 → isLive current b ≡ false
 unfolding isLive
 zero-not-live b e = rw e
 
 free-zero : (b : List ℕ) → isFree b ≡ true → liveByte b ≡ 0
 unfolding isFree field
-free-zero b e = rw (zeros-replicate b e, numbers-zeros placeFields (length b))
+free-zero b e = rw (zeros-replicate b e, numbers-zeros (placeFields current) (length b))
 
 -- ---- the walk, with all texts passed
 
@@ -120,7 +120,7 @@ walkAll ks (b ∷ bs) =
 
 -- what `legalPlaces` asks, and that no text is one of those passed
 unfoldable legalBehind : List ℕ → List (List ℕ) → Bool
-legalBehind ks bs = liveFirst bs && every legalPlace (placesOf bs) && (different (placesOf bs) && apart ks (placesOf bs))
+legalBehind ks bs = liveFirst current bs && every (legalPlace current) (placesOf current bs) && (different (placesOf current bs) && apart ks (placesOf current bs))
 
 empty : (ks : List ℕ) → legalBehind ks [] ≡ true
 unfolding legalBehind liveFirst placesOf every different apart
@@ -139,15 +139,15 @@ and-left-comm a b c = rw (← and-assoc a b c, and-comm a b, and-assoc b a c)
 regroup : (l f g e nr d k a : Bool) → l && f && (g && e) && (nr && d && (k && a)) ≡ l && g && k && (f && e && (d && (nr && a)))
 regroup l f g e nr d k a = simp (and-assoc, and-left-comm)
 
-passes : (ks : List ℕ) (b : List ℕ) (bs : List (List ℕ)) → PlaceRun b → All PlaceRun bs → (liveByte b ≡ 0 → ⊥)
+passes : (ks : List ℕ) (b : List ℕ) (bs : List (List ℕ)) → PlaceRun current b → All (PlaceRun current) bs → (liveByte b ≡ 0 → ⊥)
     → legalBehind ks (b ∷ bs) ≡ legalLive b && fresh (textAt b) ks && legalBehind (textAt b ∷ ks) bs
 unfolding legalBehind liveFirst placesOf every different legalLive
 passes ks b bs r rs n =
     let live : isFree b ≡ false = by-test (isFree b) (λ e. absurd (n (free-zero b e))) (λ e. e) in
-    rw (live, text-of b r, apart-cons, apart-more (placeOf b) ks (small b r) (small-places rs))
-    (regroup (isLive b) (liveFirst bs) (legalPlace (placeOf b)) (every legalPlace (placesOf bs)) (not (running (placeOf b .identifier) (placeOf b .serial) (placesOf bs))) (different (placesOf bs)) (fresh (textOf (placeOf b)) ks) (apart ks (placesOf bs)))
+    rw (live, text-of b r, apart-cons, apart-more (placeOf current b) ks (small b r) (small-places rs))
+    (regroup (isLive current b) (liveFirst current bs) (legalPlace current (placeOf current b)) (every (legalPlace current) (placesOf current bs)) (not (running (placeOf current b .identifier) (placeOf current b .serial) (placesOf current bs))) (different (placesOf current bs)) (fresh (textOf (placeOf current b)) ks) (apart ks (placesOf current bs)))
 
-walks : (ks : List ℕ) {bs : List (List ℕ)} → All PlaceRun bs → legalBehind ks bs ≡ walkAll ks bs
+walks : (ks : List ℕ) {bs : List (List ℕ)} → All (PlaceRun current) bs → legalBehind ks bs ≡ walkAll ks bs
 unfolding walkAll
 walks ks none = empty ks
 walks ks (more {x = b} {xs = bs} r rs) =
@@ -170,15 +170,15 @@ noText = 256 ^ 4
 no-text : (b : List ℕ) → Bytes b → eqb (textAt b) noText ≡ false
 no-text b h = ne-eqb (textAt b) noText (λ (e : textAt b ≡ noText). omega (arith, be-small 4 0 b h))
 
-walk-four : {a b c d : List ℕ} → All PlaceRun (a ∷ b ∷ c ∷ d ∷ []) → walkAll [] (a ∷ b ∷ c ∷ d ∷ []) ≡ walk noText noText noText (a ∷ b ∷ c ∷ d ∷ [])
+walk-four : {a b c d : List ℕ} → All (PlaceRun current) (a ∷ b ∷ c ∷ d ∷ []) → walkAll [] (a ∷ b ∷ c ∷ d ∷ []) ≡ walk noText noText noText (a ∷ b ∷ c ∷ d ∷ [])
 unfolding walkAll walk fresh
 walk-four (more {x = a} p (more {x = b} q (more {x = c} r (more {x = d} s none)))) =
     simp (no-text a (p .0), no-text b (q .0), no-text c (r .0), and-true, and-assoc)
 
-starts : (bs : List (List ℕ)) → legalPlaces bs ≡ legalBehind [] bs
+starts : (bs : List (List ℕ)) → legalPlaces current bs ≡ legalBehind [] bs
 unfolding legalPlaces legalBehind
-starts bs = rw (apart-none (placesOf bs), and-true)
+starts bs = rw (apart-none (placesOf current bs), and-true)
 
-pub walk-starts : (l : List ℕ) → All PlaceRun (pieces placeSize placesPerCell l) → legalPlaces (pieces placeSize placesPerCell l) ≡ walk noText noText noText (pieces placeSize placesPerCell l)
+pub walk-starts : (l : List ℕ) → All (PlaceRun current) (pieces (placeSize current) placesPerCell l) → legalPlaces current (pieces (placeSize current) placesPerCell l) ≡ walk noText noText noText (pieces (placeSize current) placesPerCell l)
 unfolding pieces
 walk-starts l rs = starts _ ∙ walks [] rs ∙ walk-four rs

@@ -5,7 +5,7 @@ use Prim.Native.Nat.{ℕ, _+_, _*_}
 use lib.Dec.{eqb, leb}
 use lib.ListN.{length, take, drop}
 use Rattle.rules.specs.Lists.{every, zeros, ascending}
-use Rattle.rules.specs.Layout.{field, headerFields, placesPerCell, mostAreas, headerSize, cellSize, mostCells}
+use Rattle.rules.specs.Layout.{current, field, headerFields, placesPerCell, mostAreas, headerSize, mostCells}
 use Rattle.rules.specs.Table.{isLive, placeOf, legalPlace, cellCount, identityAt}
 
 -- at most four are used, the used ones come first and ascend, the rest is zero
@@ -14,15 +14,15 @@ legalAreas used areas = leb used mostAreas && ascending (take used areas) && zer
 
 -- a place that is no free one
 unfoldable pub legalLive : List ℕ → Bool
-legalLive b = isLive b && legalPlace (placeOf b)
+legalLive b = isLive current b && legalPlace current (placeOf current b)
 
--- the header, mark and version apart, and the exact length
-unfoldable pub legalHeader : List ℕ → Bool
-legalHeader t =
+-- the header, mark and version apart, and the exact length, of cells of a size
+unfoldable pub legalHeader : ℕ → List ℕ → Bool
+legalHeader size t =
     (leb 1 (cellCount t) && leb (cellCount t) mostCells)
     && eqb (field headerFields 3 t) placesPerCell
     && eqb (field headerFields 4 t) 0
-    && eqb (length t) (headerSize + cellSize * cellCount t)
+    && eqb (length t) (headerSize + size * cellCount t)
 
 -- runs of bytes that f finds legal, strictly ascending by NR CGI
 unfoldable pub legalRuns : (List ℕ → Bool) → List (List ℕ) → Bool

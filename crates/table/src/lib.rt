@@ -1,18 +1,16 @@
 // The judge of a table: each rule of document 01, "The table", is tested where the bytes stand, in one pass.
 ghost use mathlib.Core.Path.{_≡_};
-ghost use mathlib.Core.Bool.{_&&_};
 ghost use Prim.Native.Nat.{_+_, _*_, _≤_};
 ghost use lib.ListN.{length, drop};
 ghost use Rattle.octets.specs.Numbers.{be};
 ghost use Rattle.octets.specs.Runs.{gets, pieces};
 ghost use Rattle.rules.specs.Lists.{larger, every};
-ghost use Rattle.rules.specs.Layout.{headSize, placeSize, placesPerCell, cellSize};
+ghost use Rattle.rules.specs.Layout.{current, headSize, placeSize, placesPerCell, cellSize};
 ghost use Rattle.rules.specs.Table.{allAreas, legalHead, placeOf, isFree, legalPlace, legalPlaces, legalCell, tableMarked};
 ghost use Rattle.rules.specs.Refusals.{tableVerdict};
 ghost use Rattle.table.specs.Judge.{legalAreas, legalLive, legalHeader, legalRuns};
 use octets::get8;
 use octets::get16;
-use octets::get24;
 use octets::get32;
 use octets::get64;
 use rules::Broadcasts;
@@ -49,8 +47,10 @@ use rules::layout::VERSION_AT;
 use rules::layout::WAIT_AT;
 use rules::layout::ZEROS_AT;
 
-// What one `get32` reads.
+// What one `get32` reads, and one `get64`.
 const WORD: usize = 4;
+
+const LONG: usize = 8;
 
 // Where areas stand in a head, and the word that ends with the last of them.
 const SECOND_AREA_AT: usize = AREAS_AT + AREA;
@@ -64,12 +64,12 @@ const NO_TEXT: u64 = 1 << 32;
 
 // Any bytes: accepted, or document 01's refusal 1 or 2.
 pub fn verdict(table: &[u8]) -> Verdict
-    ensures { λ r. ⌜ r ≡ tableVerdict (now (table .entry)) ⌝ }
+    ensures { λ r. ⌜ r ≡ tableVerdict current (now (table .entry)) ⌝ }
 {
-    if !marked(table) {
+    if !marked(table, TABLE_VERSION) {
         return Verdict::Refused(Refusal::TableMark);
     }
-    if !header_legal(table) {
+    if !header_legal(table, CELL) {
         return Verdict::Refused(Refusal::TableWrong);
     }
     let count = get16(table, CELLS_AT) as usize;
@@ -80,18 +80,19 @@ pub fn verdict(table: &[u8]) -> Verdict
 }
 
 // Shorter than its mark and version, a table has neither. The version's upper byte is zero: it is read with the mark.
-fn marked(table: &[u8]) -> bool
-    ensures { λ r. ⌜ r ≡ tableMarked (now (table .entry)) ⌝ }
+pub fn marked(table: &[u8], version: u8) -> bool
+    ensures { λ r. ⌜ r ≡ tableMarked version (now (table .entry)) ⌝ }
 {
     if table.len() < CELLS_AT {
         return false;
     }
-    (get32(table, 0) == TABLE_MARK * 256) & (get8(table, VERSION_AT + 1) as u16 == TABLE_VERSION)
+    (get32(table, 0) == TABLE_MARK * 256) & (get8(table, VERSION_AT + 1) == version)
 }
 
-// The count of cells, the places per cell, the zeros and the exact length.
-fn header_legal(table: &[u8]) -> bool
-    ensures { λ r. ⌜ r ≡ legalHeader (now (table .entry)) ⌝ }
+// The count of cells, the places per cell, the zeros and the exact length, of cells of so many bytes.
+pub fn header_legal(table: &[u8], cell: usize) -> bool
+    requires { ⌜ cell ≤ cellSize current ⌝ }
+    ensures { λ r. ⌜ r ≡ legalHeader cell (now (table .entry)) ⌝ }
 {
     if table.len() < HEADER {
         return false;
@@ -100,13 +101,13 @@ fn header_legal(table: &[u8]) -> bool
     ((1 <= count) & (count <= MOST_CELLS))
         & (get8(table, PLACES_AT) as usize == PLACES)
         & (get64(table, ZEROS_AT) == 0)
-        & (table.len() == HEADER + CELL * count)
+        & (table.len() == HEADER + cell * count)
 }
 
 // `least` is the least NR CGI that may follow.
 fn cells_legal(cells: &[u8], count: usize) -> bool
-    requires { ⌜ length (now cells) ≡ cellSize * count ⌝ }
-    ensures { λ r. ⌜ r ≡ legalRuns legalCell (pieces cellSize count (now (cells .entry))) ⌝ }
+    requires { ⌜ length (now cells) ≡ cellSize current * count ⌝ }
+    ensures { λ r. ⌜ r ≡ legalRuns (legalCell current) (pieces (cellSize current) count (now (cells .entry))) ⌝ }
 {
     let mut at: usize = 0;
     let mut left = count;
@@ -128,13 +129,13 @@ fn cells_legal(cells: &[u8], count: usize) -> bool
 }
 
 fn cell_legal(cell: &[u8]) -> bool
-    requires { ⌜ length (now cell) ≡ cellSize ⌝ }
-    ensures { λ r. ⌜ r ≡ legalCell (now (cell .entry)) ⌝ }
+    requires { ⌜ length (now cell) ≡ cellSize current ⌝ }
+    ensures { λ r. ⌜ r ≡ legalCell current (now (cell .entry)) ⌝ }
 {
     head_legal(&cell[..HEAD]) & places_legal(&cell[HEAD..])
 }
 
-// The builder asks this too.
+// The builder and the converter ask this too.
 pub fn head_legal(head: &[u8]) -> bool
     requires { ⌜ length (now head) ≡ headSize ⌝ }
     ensures { λ r. ⌜ r ≡ legalHead (now (head .entry)) ⌝ }
@@ -185,10 +186,10 @@ fn lower24(s: &[u8], at: usize) -> u32
     get32(s, at) % 16777216
 }
 
-// `a`, `b` and `c` are the last three texts: an identifier and a serial number each, as one number.
-fn places_legal(places: &[u8]) -> bool
-    requires { ⌜ length (now places) ≡ placeSize * placesPerCell ⌝ }
-    ensures { λ r. ⌜ r ≡ legalPlaces (pieces placeSize placesPerCell (now (places .entry))) ⌝ }
+// The converter asks this too. `a`, `b` and `c` are the last three texts: an identifier and a serial number each, as one number.
+pub fn places_legal(places: &[u8]) -> bool
+    requires { ⌜ length (now places) ≡ placeSize current * placesPerCell ⌝ }
+    ensures { λ r. ⌜ r ≡ legalPlaces current (pieces (placeSize current) placesPerCell (now (places .entry))) ⌝ }
 {
     let mut at: usize = 0;
     let mut left = PLACES;
@@ -215,8 +216,8 @@ fn places_legal(places: &[u8]) -> bool
 
 // The last places of a cell, written out: a loop would not be unrolled.
 fn all_free(places: &[u8], at: usize, left: usize) -> bool
-    requires { ⌜ (1 ≤ left) × (left ≤ placesPerCell) × (at + placeSize * left ≤ length (now places)) ⌝ }
-    ensures { λ r. ⌜ r ≡ every isFree (pieces placeSize left (drop at (now (places .entry)))) ⌝ }
+    requires { ⌜ (1 ≤ left) × (left ≤ placesPerCell) × (at + placeSize current * left ≤ length (now places)) ⌝ }
+    ensures { λ r. ⌜ r ≡ every isFree (pieces (placeSize current) left (drop at (now (places .entry)))) ⌝ }
 {
     if left == 1 {
         return place_free(places, at);
@@ -229,60 +230,47 @@ fn all_free(places: &[u8], at: usize, left: usize) -> bool
             & place_free(places, at + PLACE)
             & place_free(places, at + 2 * PLACE);
     }
-    two_free(places, at) & two_free(places, at + 2 * PLACE)
+    place_free(places, at)
+        & place_free(places, at + PLACE)
+        & place_free(places, at + 2 * PLACE)
+        & place_free(places, at + 3 * PLACE)
 }
 
-// All 40 bytes of two places are zero: reads of twice the width, for the cells that have no live place.
-fn two_free(places: &[u8], at: usize) -> bool
-    requires { ⌜ at + placeSize * 2 ≤ length (now places) ⌝ }
-    ensures { λ r. ⌜ r ≡ isFree (gets (now (places .entry)) at placeSize) && isFree (gets (now (places .entry)) (at + placeSize) placeSize) ⌝ }
-{
-    (get64(places, at) == 0)
-        & (get64(places, at + 2 * WORD) == 0)
-        & (get64(places, at + 4 * WORD) == 0)
-        & (get64(places, at + 6 * WORD) == 0)
-        & (get64(places, at + 8 * WORD) == 0)
-}
-
-// All 20 bytes are zero. One width: the compiler makes one test of these, also of several places.
+// All 24 bytes are zero. One width: the compiler makes one test of these, also of several places.
 fn place_free(places: &[u8], at: usize) -> bool
-    requires { ⌜ at + placeSize ≤ length (now places) ⌝ }
-    ensures { λ r. ⌜ r ≡ isFree (gets (now (places .entry)) at placeSize) ⌝ }
+    requires { ⌜ at + placeSize current ≤ length (now places) ⌝ }
+    ensures { λ r. ⌜ r ≡ isFree (gets (now (places .entry)) at (placeSize current)) ⌝ }
 {
-    (get32(places, at) == 0)
-        & (get32(places, at + WORD) == 0)
-        & (get32(places, at + 2 * WORD) == 0)
-        & (get32(places, at + 3 * WORD) == 0)
-        & (get32(places, at + 4 * WORD) == 0)
+    (get64(places, at) == 0) & (get64(places, at + LONG) == 0) & (get64(places, at + 2 * LONG) == 0)
 }
 
 fn live_legal(place: &[u8]) -> bool
-    requires { ⌜ length (now place) ≡ placeSize ⌝ }
+    requires { ⌜ length (now place) ≡ placeSize current ⌝ }
     ensures { λ r. ⌜ r ≡ legalLive (now (place .entry)) ⌝ }
 {
     (get8(place, LIVE_AT) == 1) & (get16(place, FILLING_AT) == 0) & terms_legal(place_of(place))
 }
 
-// The place that 20 bytes say.
+// The place that 24 bytes say.
 fn place_of(place: &[u8]) -> Place
-    requires { ⌜ length (now place) ≡ placeSize ⌝ }
-    ensures { λ r. ⌜ r ≡ placeOf (now (place .entry)) ⌝ }
+    requires { ⌜ length (now place) ≡ placeSize current ⌝ }
+    ensures { λ r. ⌜ r ≡ placeOf current (now (place .entry)) ⌝ }
 {
     Place {
         identifier: get16(place, 0),
         serial: get16(place, PLACE_SERIAL_AT),
         content: get32(place, CONTENT_AT),
-        period: Seconds(get16(place, PERIOD_AT) as u32),
+        period: Seconds(get32(place, PERIOD_AT)),
         requested: Broadcasts(get16(place, REQUESTED_AT)),
         sent: Broadcasts(get16(place, SENT_AT)),
-        wait: Seconds(get16(place, WAIT_AT) as u32),
+        wait: Seconds(get32(place, WAIT_AT)),
         sib: get8(place, SIB_AT),
     }
 }
 
 // What document 01 asks of a live place.
 fn terms_legal(place: Place) -> bool
-    ensures { λ r. ⌜ r ≡ legalPlace place ⌝ }
+    ensures { λ r. ⌜ r ≡ legalPlace current place ⌝ }
 {
     (place.period.0 <= LONGEST_PERIOD)
         & ((place.period.0 != 0) | (place.requested.0 == 1))

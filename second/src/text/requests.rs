@@ -1,7 +1,8 @@
 //! A line's request.
 
 use super::words::Words;
-use crate::place::{Broadcasts, Seconds, LARGEST_PERIOD, SIB_KINDS};
+use crate::layout::Layout;
+use crate::place::{Broadcasts, Seconds, SIB_KINDS};
 use crate::record::Record;
 use crate::request::*;
 
@@ -31,7 +32,7 @@ fn start(words: &mut Words) -> Result<Request, String> {
     words.expect("content")?;
     let content = words.number("content", 0..=u32::MAX)?;
     words.expect("every")?;
-    let period = Seconds(words.number("period", 0..=LARGEST_PERIOD.0)?);
+    let period = Seconds(words.number("period", 0..=Layout::CURRENT.largest_period.0)?);
     words.expect("times")?;
     let requested = Broadcasts(words.number("count of broadcasts", 0..=u16::MAX)?);
     words.expect("sib")?;

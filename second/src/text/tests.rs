@@ -105,8 +105,8 @@ fn a_number_out_of_its_range_is_told() {
     assert_eq!(start("1/-1"), "The serial number must be 0 to 65535, unlike `-1`.");
     let content = "The content must be 0 to 4294967295, unlike `0x7`.";
     assert_eq!(start("1/1 content 0x7"), content);
-    let period = "The period must be 0 to 4095, unlike `4096`.";
-    assert_eq!(start("1/1 content 7 every 4096"), period);
+    let period = "The period must be 0 to 131071, unlike `131072`.";
+    assert_eq!(start("1/1 content 7 every 131072"), period);
     let requested = "The count of broadcasts must be 0 to 65535, unlike `+3`.";
     assert_eq!(start("1/1 content 7 every 2 times +3"), requested);
     let sib = "The SIB kind must be 6 to 8, unlike `9`.";

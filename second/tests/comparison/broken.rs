@@ -2,10 +2,11 @@
 
 use second::request::*;
 use second::{
-    apply, build, item, read, write, Answer, Area, Broadcasts, Cell, Done, Head, Reading, Record,
+    apply, build, item, read, write, Answer, Area, Broadcasts, Done, Head, Layout, Reading, Record,
     Refusal, Request, Seconds, Table, EARTHQUAKE_PRIMARY,
 };
 
+use super::broken_periods::broken_in_periods;
 use super::broken_primaries::broken_in_primaries;
 use super::spoiled::*;
 use super::unit::{Functions, SOUND};
@@ -83,15 +84,16 @@ pub fn broken_units() -> Vec<(&'static str, Functions)> {
         ("a cut item is filled with zeros", Functions { item: fills_a_cut_item, ..SOUND }),
     ]);
     units.extend(broken_in_primaries());
+    units.extend(broken_in_periods());
     units
 }
 
-fn short_by(buffer: &mut [u8], bytes: usize) -> &mut [u8] {
+pub fn short_by(buffer: &mut [u8], bytes: usize) -> &mut [u8] {
     let length = buffer.len().saturating_sub(bytes);
     &mut buffer[..length]
 }
 
-fn with_byte(bytes: &[u8], offset: usize, byte: u8) -> Vec<u8> {
+pub fn with_byte(bytes: &[u8], offset: usize, byte: u8) -> Vec<u8> {
     let mut bytes = bytes.to_vec();
     bytes.get_mut(offset).into_iter().for_each(|place| *place = byte);
     bytes
@@ -205,7 +207,7 @@ fn the_headers_zero_bytes_may_be_any(table: &mut [u8], record: &[u8], answer: &m
 }
 
 fn room_before_heads(heads: &[u8], table: &mut [u8]) -> Done {
-    let short = table.len() < Table::HEADER + heads.len() / Head::LENGTH * Cell::LENGTH;
+    let short = table.len() < Layout::CURRENT.table(heads.len() / Head::LENGTH);
     if short {
         refused(Refusal::Room)
     } else {
@@ -214,7 +216,7 @@ fn room_before_heads(heads: &[u8], table: &mut [u8]) -> Done {
 }
 
 fn keeps_old_bytes(heads: &[u8], table: &mut [u8]) -> Done {
-    let last_byte = Table::HEADER + Cell::LENGTH - 1;
+    let last_byte = Layout::CURRENT.table(1) - 1;
     let last = table.get(last_byte).copied();
     let done = build(heads, table);
     if let (Some(last), 0) = (last, done.number) {

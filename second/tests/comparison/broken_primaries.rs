@@ -1,8 +1,8 @@
 //! Units with one fault each in what document 02 says of earthquake primaries.
 
 use second::request::*;
-use second::{apply, read, write, Broadcasts, Done, Place, Reading, Record, Refusal, Request};
-use second::{Seconds, Table, EARTHQUAKE_PRIMARY, LARGEST_PERIOD};
+use second::{apply, read, write, Broadcasts, Done, Layout, Place, Reading, Record, Refusal};
+use second::{Request, Seconds, Table, EARTHQUAKE_PRIMARY};
 
 use super::broken::{faulty_in_applying, refused, Apply};
 use super::spoiled::{spoiled, with_request, Applied};
@@ -66,11 +66,10 @@ fn stop_primary_if(request: &mut Request, stopped: fn(&Request) -> bool) {
     }
 }
 
-/// Each place that the start of a primary made: the last one of a cell that changed.
+/// Each place that the start of a primary made.
 fn made(applied: &mut Applied) -> impl Iterator<Item = &mut Place> {
     let primary = is_primary(&applied.record.request);
-    let changed = applied.reached().filter(move |(before, after)| primary && **before != **after);
-    changed.filter_map(|(_, after)| after.places.last_mut())
+    applied.started().filter(move |_| primary)
 }
 
 /// Period 0 aside, which no unending place may have.
@@ -157,7 +156,7 @@ fn its_period_is_not_judged(table: &mut [u8], record: &[u8], answer: &mut [u8]) 
 }
 
 fn stored(request: Request) -> Request {
-    if is_primary(&request) && request.period <= LARGEST_PERIOD {
+    if is_primary(&request) && request.period <= Layout::CURRENT.largest_period {
         Request { period: Seconds(1), requested: Broadcasts(0), ..request }
     } else {
         request

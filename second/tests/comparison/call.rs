@@ -17,6 +17,7 @@ pub enum Call {
     Item { record: Vec<u8>, k: usize },
     Segment { first: Vec<u8>, more: Vec<u8>, k: usize },
     Pack { bytes: Vec<u8>, lengths: Vec<u64>, list: Vec<u8> },
+    Convert { old: Vec<u8>, table: Vec<u8> },
 }
 
 /// What a call returned, and every buffer that it was lent for writing.
@@ -48,6 +49,10 @@ pub enum Outcome {
         done: Done,
         list: Vec<u8>,
     },
+    Converted {
+        done: Done,
+        table: Vec<u8>,
+    },
     /// The unit panicked, or wrote where it was lent nothing for writing.
     Panicked,
 }
@@ -73,6 +78,9 @@ impl Call {
             Call::Pack { bytes, lengths, mut list } => {
                 Outcome::Packed { done: unit.pack(&bytes, &lengths, &mut list), list }
             }
+            Call::Convert { old, mut table } => {
+                Outcome::Converted { done: unit.convert(&old, &mut table), table }
+            }
         }
     }
 
@@ -96,6 +104,7 @@ impl Call {
             ["pack", of, lengths, list] => {
                 Call::Pack { bytes: bytes(of)?, lengths: numbers(lengths)?, list: bytes(list)? }
             }
+            ["convert", old, table] => Call::Convert { old: bytes(old)?, table: bytes(table)? },
             _ => return None,
         })
     }
@@ -123,6 +132,9 @@ impl Display for Call {
                 let lengths = hex_of_numbers(lengths);
                 write!(formatter, "pack {} {lengths} {}", hex(bytes), hex(list))
             }
+            Call::Convert { old, table } => {
+                write!(formatter, "convert {} {}", hex(old), hex(table))
+            }
         }
     }
 }
@@ -131,7 +143,8 @@ impl Outcome {
     /// Where two outcomes differ first, so that long texts need not be read for it.
     pub fn difference(&self, other: &Outcome) -> String {
         let pairs = match (self, other) {
-            (Outcome::Built { table, .. }, Outcome::Built { table: theirs, .. }) => {
+            (Outcome::Built { table, .. }, Outcome::Built { table: theirs, .. })
+            | (Outcome::Converted { table, .. }, Outcome::Converted { table: theirs, .. }) => {
                 vec![("table", table, theirs)]
             }
             (
@@ -158,8 +171,9 @@ impl Display for Outcome {
     fn fmt(&self, formatter: &mut Formatter<'_>) -> fmt::Result {
         let done = |done: &Done| format!("number {}, length {}", done.number, done.length);
         match self {
-            Outcome::Built { done: built, table } => {
-                write!(formatter, "{}\n  table {}", done(built), hex(table))
+            Outcome::Built { done: written, table }
+            | Outcome::Converted { done: written, table } => {
+                write!(formatter, "{}\n  table {}", done(written), hex(table))
             }
             Outcome::Applied { done: applied, table, answer } => {
                 let (table, answer) = (hex(table), hex(answer));

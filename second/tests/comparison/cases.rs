@@ -1,7 +1,7 @@
 //! The inputs of a comparison, in rounds: each round makes every kind of call.
 
 use second::request::*;
-use second::{Answer, Broadcasts, Cell, Head, Record, Request, Seconds, Table};
+use second::{Answer, Broadcasts, Cell, Head, Layout, Record, Request, Seconds};
 
 use super::call::Call;
 use super::compare::{Compare, Difference};
@@ -9,7 +9,7 @@ use super::tables::table;
 use super::wrong_tables::WrongTables;
 use crate::given::heads::{count, heads};
 use crate::given::random::Random;
-use crate::given::records::{in_area, of_kind, one_match, record, KINDS};
+use crate::given::records::{encoded, in_area, of_kind, one_match, record, KINDS};
 use crate::given::wrong_records::WrongRecords;
 
 pub type Compared = Result<(), Difference>;
@@ -20,9 +20,11 @@ pub struct Cases<'a> {
 }
 
 impl Cases<'_> {
-    /// Starts on all terms, then rounds until at least so many calls are made.
+    /// Starts on all terms and what lies at a bound of a period, then rounds until at least so many
+    /// calls are made.
     pub fn run(&mut self, calls: u64) -> Compared {
         self.starts()?;
+        self.periods()?;
         while self.compare.calls < calls {
             self.builds()?;
             self.records()?;
@@ -53,7 +55,7 @@ impl Cases<'_> {
     }
 
     /// A buffer with room for any answer to a request on so many cells, or now and then too short.
-    fn answer(&mut self, kind: u8, cells: usize) -> Vec<u8> {
+    pub(super) fn answer(&mut self, kind: u8, cells: usize) -> Vec<u8> {
         let sizes = self.sizes(Answer::room(kind, cells));
         let often = [sizes[0], sizes[0], sizes[0], sizes[4], sizes[self.random.below(5)]];
         let size = self.random.pick(&often);
@@ -65,7 +67,7 @@ impl Cases<'_> {
         for count in [1, any, 511, 512] {
             let heads = heads(&mut self.random, count);
             let bytes: Vec<u8> = heads.iter().flat_map(Head::encode).collect();
-            for size in self.sizes(Table::HEADER + Cell::LENGTH * count) {
+            for size in self.sizes(Layout::CURRENT.table(count)) {
                 let table = self.buffer(size);
                 self.compare.build(&bytes, table)?;
             }
@@ -78,7 +80,7 @@ impl Cases<'_> {
         let heads = self.heads();
         for kind in KINDS {
             let record = of_kind(&mut self.random, &heads, kind);
-            let whole = record.encode();
+            let whole = encoded(&mut self.random, &record);
             self.compare.read(&whole)?;
             let cut = self.random.below(whole.len());
             self.compare.read(&whole[..cut])?;
@@ -108,7 +110,8 @@ impl Cases<'_> {
             let heads = heads(&mut self.random, count);
             for kind in KINDS {
                 let table = table(&mut self.random, &heads).encode();
-                let record = of_kind(&mut self.random, &heads, kind).encode();
+                let record = of_kind(&mut self.random, &heads, kind);
+                let record = encoded(&mut self.random, &record);
                 for size in self.sizes(Answer::room(kind, count)) {
                     let answer = self.buffer(size);
                     self.compare.apply(table.clone(), &record, answer)?;
@@ -130,9 +133,10 @@ impl Cases<'_> {
                 (request.flags, request.period, request.requested) = (0, Seconds(1), Broadcasts(1));
                 record.items = one_match(&mut self.random, &heads, area, count);
                 let answer = self.buffer(Answer::room(WRITE_REPLACE, heads.len()));
-                self.compare.apply(table, &record.encode(), answer)?;
-                self.compare.read(&record.encode())?;
-                let buffer = self.buffer(record.encode().len());
+                let bytes = encoded(&mut self.random, &record);
+                self.compare.apply(table, &bytes, answer)?;
+                self.compare.read(&bytes)?;
+                let buffer = self.buffer(bytes.len());
                 self.write(&record, buffer)?;
             }
         }
@@ -147,7 +151,7 @@ impl Cases<'_> {
         let long = if self.random.one_in(16) { 4000 } else { 300 };
         for _ in 0..if cells > 64 { 20 } else { long } {
             let record = record(&mut self.random, &heads);
-            let mut bytes = record.encode();
+            let mut bytes = encoded(&mut self.random, &record);
             if self.random.one_in(12) {
                 let offset = self.random.below(bytes.len());
                 bytes[offset] = self.random.other(bytes[offset]);
@@ -158,22 +162,18 @@ impl Cases<'_> {
         Ok(())
     }
 
-    /// A long run of seconds, and now and then longer than the largest period.
+    /// A long run of seconds, and now and then longer than the largest period of version 1.
     fn seconds(&mut self) -> Compared {
         let cells = 1 + self.random.below(4);
         let heads = heads(&mut self.random, cells);
-        let mut table = table(&mut self.random, &heads).encode();
-        let second = of_kind(&mut self.random, &heads, SECOND).encode();
-        for _ in 0..if self.random.one_in(16) { 4200 } else { 300 } {
-            let answer = self.buffer(Answer::room(SECOND, cells));
-            table = self.compare.apply(table, &second, answer)?;
-        }
-        Ok(())
+        let table = table(&mut self.random, &heads).encode();
+        let seconds = if self.random.one_in(16) { 4200 } else { 300 };
+        self.run_seconds(table, seconds).map(drop)
     }
 
     fn wrong_heads(&mut self) -> Compared {
         for wrong in WrongTables::all_heads(&mut self.random) {
-            let room = Table::HEADER + Cell::LENGTH * wrong.bytes.len().div_ceil(Head::LENGTH);
+            let room = Layout::CURRENT.table(wrong.bytes.len().div_ceil(Head::LENGTH));
             for size in [room, 0] {
                 let table = self.buffer(size);
                 self.compare.build(&wrong.bytes, table)?;
@@ -184,9 +184,9 @@ impl Cases<'_> {
 
     fn wrong_tables(&mut self) -> Compared {
         let heads = heads(&mut self.random, 3);
-        for wrong in WrongTables::all(&mut self.random) {
+        for wrong in WrongTables::all(Layout::CURRENT, &mut self.random) {
             let record = record(&mut self.random, &heads);
-            let bytes = record.encode();
+            let bytes = encoded(&mut self.random, &record);
             let cut =
                 if self.random.one_in(4) { self.random.below(bytes.len()) } else { bytes.len() };
             let answer = self.answer(record.request.kind, wrong.bytes.len() / Cell::LENGTH);
@@ -222,7 +222,8 @@ impl Cases<'_> {
         for _ in 0..60 {
             let heads = heads(&mut self.random, 2);
             let legal_table = table(&mut self.random, &heads).encode();
-            let legal_record = record(&mut self.random, &heads).encode();
+            let legal_record = record(&mut self.random, &heads);
+            let legal_record = encoded(&mut self.random, &legal_record);
             let legal_heads: Vec<u8> = heads.iter().flat_map(Head::encode).collect();
             let table = self.senseless(legal_table);
             let record = self.senseless(legal_record);
@@ -241,7 +242,7 @@ impl Cases<'_> {
         Ok(())
     }
 
-    fn senseless(&mut self, legal: Vec<u8>) -> Vec<u8> {
+    pub(super) fn senseless(&mut self, legal: Vec<u8>) -> Vec<u8> {
         let length = self.random.below(2 * legal.len());
         let mut bytes = match self.random.below(4) {
             0 => return self.buffer(length),

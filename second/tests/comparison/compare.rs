@@ -55,8 +55,18 @@ impl<'a> Compare<'a> {
         record: &[u8],
         answer: Vec<u8>,
     ) -> Result<Vec<u8>, Difference> {
+        self.apply_with_answer(table, record, answer).map(|(_, table, _)| table)
+    }
+
+    /// What applying returns, and the table and the answer as the call leaves them.
+    pub fn apply_with_answer(
+        &mut self,
+        table: Vec<u8>,
+        record: &[u8],
+        answer: Vec<u8>,
+    ) -> Result<(Done, Vec<u8>, Vec<u8>), Difference> {
         match self.call(Call::Apply { table, record: record.to_vec(), answer })? {
-            Outcome::Applied { table, .. } => Ok(table),
+            Outcome::Applied { done, table, answer } => Ok((done, table, answer)),
             other => Err(format!("applying had the outcome {other}")),
         }
     }
@@ -86,6 +96,14 @@ impl<'a> Compare<'a> {
         match self.call(Call::Pack { bytes: bytes.to_vec(), lengths: lengths.to_vec(), list })? {
             Outcome::Packed { done, list } => Ok((done, list)),
             other => Err(format!("packing had the outcome {other}")),
+        }
+    }
+
+    /// The buffer as the call leaves it.
+    pub fn convert(&mut self, old: &[u8], table: Vec<u8>) -> Result<Vec<u8>, Difference> {
+        match self.call(Call::Convert { old: old.to_vec(), table })? {
+            Outcome::Converted { table, .. } => Ok(table),
+            other => Err(format!("converting had the outcome {other}")),
         }
     }
 }

@@ -1,13 +1,13 @@
 //! What the documents promise of the bytes of every call, whatever happens in a cell: a look of its
 //! own at outcomes on which two units agree.
 
-use second::{Area, Cell, Done, Head, Record, Table};
+use second::{Area, Cell, Done, Head, Layout, Record, Table};
 
 use super::call::{Call, Outcome};
 use super::part::Part;
 
-/// "A refusal returns its number and length 0, and nothing is written", "bytes beyond it stay",
-/// "Only the 104 bytes of a reached cell may be written".
+/// "A refusal returns its number and length 0, and nothing is written", "bytes beyond it stay", and
+/// only the bytes "of a reached cell may be written".
 pub fn are_kept(call: &Call, outcome: &Outcome) -> bool {
     match (call, outcome) {
         (Call::Build { table: before, .. }, Outcome::Built { done, table }) => {
@@ -26,6 +26,9 @@ pub fn are_kept(call: &Call, outcome: &Outcome) -> bool {
         }
         (Call::Pack { list: before, .. }, Outcome::Packed { done, list }) => {
             rest_stays(done, before, list)
+        }
+        (Call::Convert { old, table: before }, Outcome::Converted { done, table }) => {
+            rest_stays(done, before, table) && all_is_carried(done, old, table)
         }
         (Call::Segment { first, more, k }, Outcome::Segment { part }) => {
             lies_where_told(first, more, *k, part)
@@ -61,6 +64,12 @@ fn unreached_stays(done: &Done, before: &[u8], record: &[u8], after: &[u8]) -> b
     };
     before[..Table::HEADER] == after[..Table::HEADER]
         && cells.cells.iter().zip(parts(before)).zip(parts(after)).all(stays)
+}
+
+/// What is converted says in the current version what it said in version 1.
+fn all_is_carried(done: &Done, old: &[u8], table: &[u8]) -> bool {
+    let old = Table::parse_in(&Layout::VERSION_1, old);
+    done.number != 0 || old.is_ok() && old == Table::parse(&table[..done.length])
 }
 
 /// "A refusal hands back an empty part"; any other is the first buffer, whole, or lies in the list

@@ -9,7 +9,7 @@ use super::tables::table;
 use super::unit::Unit;
 use crate::given::heads::heads;
 use crate::given::random::Random;
-use crate::given::records::record;
+use crate::given::records::{encoded, record};
 
 struct Step {
     record: Vec<u8>,
@@ -58,7 +58,7 @@ fn step(random: &mut Random, table: &[u8], heads: &[Head]) -> Step {
     while given.items.is_empty() && !random.one_in(8) {
         given = record(random, heads);
     }
-    let mut bytes = given.encode();
+    let mut bytes = encoded(random, &given);
     if random.one_in(12) {
         let offset = random.below(bytes.len());
         bytes[offset] = random.other(bytes[offset]);

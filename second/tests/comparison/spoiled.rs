@@ -2,7 +2,8 @@
 //! with something that it was not given.
 
 use second::request::*;
-use second::{apply, Answer, Area, Broadcasts, Cell, Done, Head, Record, Request, Row, Table};
+use second::Table;
+use second::{apply, Answer, Area, Broadcasts, Cell, Done, Head, Place, Record, Request, Row};
 
 /// An accepted call, decoded, before and after.
 pub struct Applied {
@@ -22,6 +23,13 @@ impl Applied {
         let area = Area::of(&self.record);
         let cells = self.before.cells.iter().zip(&mut self.after.cells);
         cells.filter(move |(before, _)| area.reaches(&before.head))
+    }
+
+    /// Each place that a start made: the last one of a cell that changed.
+    pub(super) fn started(&mut self) -> impl Iterator<Item = &mut Place> {
+        let start = self.is(WRITE_REPLACE);
+        let changed = self.reached().filter(move |(before, after)| start && **before != **after);
+        changed.filter_map(|(_, after)| after.places.last_mut())
     }
 
     /// A row, count and content 0, for each reached cell that is chosen.

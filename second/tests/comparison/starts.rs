@@ -1,23 +1,25 @@
 //! Starts on both sides of the zero rules, of every SIB kind, and the seconds behind each.
 
 use second::request::*;
-use second::{Answer, Broadcasts, Cell, Place, Record, Request, Seconds, Table};
+use second::{Answer, Broadcasts, Cell, Layout, Place, Record, Request, Seconds, Table};
 use second::{EARTHQUAKE_PRIMARY, SIB_KINDS};
 
 use super::cases::{Cases, Compared};
+use super::compare::Difference;
 use crate::given::heads::heads;
 
 const IDENTIFIER: u16 = 4370;
 /// The serial number of the text that is started.
 const SERIAL: u16 = 16;
 
-const PERIODS: [u32; 5] = [0, 1, 5, 4095, 4096];
+const PERIODS: [u32; 7] = [0, 1, 5, 4095, 4096, 131_071, 131_072];
 const COUNTS: [u16; 3] = [0, 1, 2];
 /// So many that a text counted up to 2 ends, and an unending one does not.
 const SECONDS: usize = 3;
 
 impl Cases<'_> {
-    /// Each start read, written and applied; the last period is refused by each of the three.
+    /// Each start written, and read and applied in both versions; the last period is refused by
+    /// each of the three, and in version 1 the two before it.
     pub(super) fn starts(&mut self) -> Compared {
         let fillings = fillings();
         let heads = heads(&mut self.random, fillings.len());
@@ -25,23 +27,32 @@ impl Cases<'_> {
         let table = Table { cells: cells.collect() };
         for request in requests() {
             let record = Record { request, items: Vec::new() };
-            self.compare.read(&record.encode())?;
             let buffer = self.buffer(Record::HEADER);
             self.write(&record, buffer)?;
-            self.start_and_seconds(&table, &record)?;
+            for layout in [Layout::VERSION_1, Layout::VERSION_2] {
+                let start = record.encode_in(&layout);
+                self.compare.read(&start)?;
+                let answer = self.buffer(Answer::room(WRITE_REPLACE, table.cells.len()));
+                let started = self.compare.apply(table.encode(), &start, answer)?;
+                self.run_seconds(started, SECONDS)?;
+            }
         }
         Ok(())
     }
 
-    fn start_and_seconds(&mut self, table: &Table, start: &Record) -> Compared {
+    /// The table after so many seconds.
+    pub(super) fn run_seconds(
+        &mut self,
+        table: Vec<u8>,
+        seconds: usize,
+    ) -> Result<Vec<u8>, Difference> {
         let request = Request { kind: SECOND, ..Request::default() };
-        let second = Record { request, items: Vec::new() };
-        let mut bytes = table.encode();
-        for record in [start].into_iter().chain([&second; SECONDS]) {
-            let answer = self.buffer(Answer::room(record.request.kind, table.cells.len()));
-            bytes = self.compare.apply(bytes, &record.encode(), answer)?;
-        }
-        Ok(())
+        let second = Record { request, items: Vec::new() }.encode();
+        let cells = (table.len() - Table::HEADER) / Cell::LENGTH;
+        (0..seconds).try_fold(table, |table, _| {
+            let answer = self.buffer(Answer::room(SECOND, cells));
+            self.compare.apply(table, &second, answer)
+        })
     }
 }
 

@@ -1,4 +1,4 @@
-//! The seven functions under comparison.
+//! The eight functions under comparison.
 
 use second::{Done, Reading, Request};
 
@@ -12,6 +12,7 @@ pub trait Unit {
     fn item(&self, record: &[u8], k: usize) -> u64;
     fn segment(&self, first: &[u8], more: &[u8], k: usize) -> Part;
     fn pack(&self, bytes: &[u8], lengths: &[u64], list: &mut [u8]) -> Done;
+    fn convert(&self, old: &[u8], table: &mut [u8]) -> Done;
 }
 
 /// A unit of plain functions, so that a broken one is this with a function exchanged.
@@ -24,6 +25,7 @@ pub struct Functions {
     pub item: fn(&[u8], usize) -> u64,
     pub segment: fn(&[u8], &[u8], usize) -> Part,
     pub pack: fn(&[u8], &[u64], &mut [u8]) -> Done,
+    pub convert: fn(&[u8], &mut [u8]) -> Done,
 }
 
 /// The second implementation.
@@ -35,6 +37,7 @@ pub const SOUND: Functions = Functions {
     item: second::item,
     segment: part::segment,
     pack: second::pack,
+    convert: second::convert,
 };
 
 impl Unit for Functions {
@@ -64,5 +67,9 @@ impl Unit for Functions {
 
     fn pack(&self, bytes: &[u8], lengths: &[u64], list: &mut [u8]) -> Done {
         (self.pack)(bytes, lengths, list)
+    }
+
+    fn convert(&self, old: &[u8], table: &mut [u8]) -> Done {
+        (self.convert)(old, table)
     }
 }

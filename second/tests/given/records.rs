@@ -2,7 +2,7 @@
 //! match, miss and repeat.
 
 use second::request::*;
-use second::{Broadcasts, CellIdentity, Head, Record, Request, Seconds};
+use second::{Broadcasts, CellIdentity, Head, Layout, Record, Request, Seconds};
 
 use super::heads::AREAS;
 use super::random::Random;
@@ -10,7 +10,9 @@ use super::random::Random;
 pub const IDENTIFIERS: [u64; 3] = [0, 4370, 65_535];
 pub const SERIALS: [u64; 4] = [0, 16, 17, 65_535];
 pub const CONTENTS: [u64; 4] = [0, 7, 8, u32::MAX as u64];
-pub const PERIODS: [u64; 6] = [0, 1, 2, 3, 4094, 4095];
+const SHORT_PERIODS: [u32; 4] = [0, 1, 2, 3];
+/// At the bound of each version, and at that of two bytes.
+const LONG_PERIODS: [u32; 7] = [4094, 4095, 4096, 65_535, 65_536, 131_070, 131_071];
 pub const COUNTS: [u64; 6] = [0, 1, 2, 3, 65_534, 65_535];
 
 pub const KINDS: [u8; 5] = [WRITE_REPLACE, CANCEL, RESTART, FAILURE, SECOND];
@@ -50,6 +52,21 @@ pub fn in_area(random: &mut Random, heads: &[Head], kind: u8, area: u8) -> Recor
     Record { request: Request { area, ..request }, items }
 }
 
+/// Half the time a short one, so that texts go out often.
+pub fn period(random: &mut Random, layout: &Layout) -> Seconds {
+    let largest = layout.largest_period.0;
+    let any = random.number() as u32 % (largest + 1);
+    let short = random.pick(&SHORT_PERIODS);
+    let long = random.pick(&LONG_PERIODS).min(largest);
+    Seconds(random.pick(&[short, short, long, any]))
+}
+
+/// The bytes of an accepted record in either version, or in the one that takes its period.
+pub fn encoded(random: &mut Random, record: &Record) -> Vec<u8> {
+    let is_old = record.request.period <= Layout::VERSION_1.largest_period && random.one_in(2);
+    record.encode_in(if is_old { &Layout::VERSION_1 } else { &Layout::CURRENT })
+}
+
 fn start(random: &mut Random) -> Request {
     Request {
         kind: WRITE_REPLACE,
@@ -58,7 +75,7 @@ fn start(random: &mut Random) -> Request {
         identifier: random.pick(&IDENTIFIERS) as u16,
         serial: random.pick_or_any(&SERIALS, 16) as u16,
         content: random.pick_or_any(&CONTENTS, 32) as u32,
-        period: Seconds((random.pick_or_any(&PERIODS, 12)) as u32),
+        period: period(random, &Layout::CURRENT),
         requested: Broadcasts(random.pick_or_any(&COUNTS, 16) as u16),
         sib: random.pick(&[6, 7, 8]),
     }

@@ -1,10 +1,17 @@
-//! Records that break one rule each, by name, with the refusal that document 01 gives them.
+//! Records that break one rule each, by name, with the refusal that the documents give them.
 
 use second::request::*;
-use second::{CellIdentity, Head, Record, Seconds, SIB_KINDS};
+use second::{CellIdentity, Head, Layout, Record, Seconds, SIB_KINDS};
 
 use super::random::Random;
-use super::records::{areas_of, in_area, of_kind, KINDS};
+use super::records::{areas_of, encoded, in_area, of_kind, KINDS};
+
+/// Not those that there are, whole or in one of their bytes.
+const VERSIONS: [u16; 8] = [0, 3, 255, 0x0100, 0x0101, 0x0102, 0x0200, 0xff02];
+/// Too large in each version, and some of them small in their lower bits.
+const PERIODS: [u32; 7] = [131_072, 131_074, 262_143, 1 << 24, (1 << 24) + 2, 1 << 31, u32::MAX];
+/// Too large in version 1 alone.
+const LONG_PERIODS: [u32; 6] = [4096, 4097, 65_535, 65_536, 65_538, 131_071];
 
 /// A breakage on otherwise valid input.
 pub struct Wrong {
@@ -52,25 +59,24 @@ impl WrongRecords<'_> {
         offset: usize,
         over: &[u8],
     ) {
-        let mut bytes = record.encode();
+        let mut bytes = encoded(self.random, record);
         bytes[offset..offset + over.len()].copy_from_slice(over);
         self.push(name, number, bytes);
     }
 
     fn break_marks(&mut self) {
-        for offset in 0..5 {
+        for offset in 0..3 {
             let record = self.any();
             let other = self.random.other(record.encode()[offset]);
-            self.push_over(
-                format!("byte {offset} of mark and version"),
-                3,
-                &record,
-                offset,
-                &[other],
-            );
+            self.push_over(format!("byte {offset} of the mark"), 3, &record, offset, &[other]);
+        }
+        for version in VERSIONS {
+            let record = self.any();
+            self.push_over(format!("version {version}"), 3, &record, 3, &version.to_be_bytes());
         }
         for length in [0, 1, 4, 5, 24, 25] {
-            let bytes = self.any().encode()[..length].to_vec();
+            let record = self.any();
+            let bytes = encoded(self.random, &record)[..length].to_vec();
             self.push(format!("cut to {length} bytes"), 3, bytes);
         }
     }
@@ -179,11 +185,16 @@ impl WrongRecords<'_> {
     }
 
     fn break_starts(&mut self) {
-        for period in [4096, 4097, 65_535, 65_536, 65_537, 1 << 24, 1 << 31, u32::MAX] {
+        let old_alone = LONG_PERIODS.map(|period| (Layout::VERSION_1, period));
+        let each = PERIODS.into_iter().flat_map(|period| {
+            [Layout::VERSION_1, Layout::VERSION_2].map(|layout| (layout, period))
+        });
+        for (layout, period) in old_alone.into_iter().chain(each) {
             for sib in SIB_KINDS {
                 let mut record = of_kind(self.random, self.heads, WRITE_REPLACE);
                 (record.request.period, record.request.sib) = (Seconds(period), sib);
-                self.push(format!("period {period}, SIB kind {sib}"), 6, record.encode());
+                let name = format!("version {}, period {period}, SIB kind {sib}", layout.version);
+                self.push(name, 6, record.encode_in(&layout));
             }
         }
         for sib in [0, 1, 5, 9, 255] {

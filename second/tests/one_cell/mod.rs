@@ -1,8 +1,8 @@
 //! A unit of one cell, and the requests of the sample situations.
 
 use second::request::*;
-use second::{apply, build, Answer, Broadcasts, CellIdentity, Head, Place, Record, Request};
-use second::{Row, Seconds, Table};
+use second::{apply, build, Answer, Broadcasts, CellIdentity, Head, Layout, Place, Record};
+use second::{Request, Row, Seconds, Table};
 
 pub const CELL: u64 = 0x00f110000000010;
 
@@ -13,7 +13,7 @@ pub struct Unit {
 
 impl Unit {
     pub fn empty() -> Unit {
-        let mut table = vec![0; 120];
+        let mut table = vec![0; Layout::CURRENT.table(1)];
         assert_eq!(build(&head().encode(), &mut table).number, 0);
         Unit { table }
     }

@@ -55,6 +55,7 @@ extern "C" {
     fn pws_item(record: *const u8, record_length: usize, k: usize) -> u64;
     fn pws_segment(first: *const u8, first_length: usize, more: *const u8, more_length: usize, k: usize) -> PwsPart;
     fn pws_pack(bytes: *const u8, bytes_length: usize, lengths: *const u64, count: usize, list: *mut u8, list_length: usize) -> PwsDone;
+    fn pws_convert(old: *const u8, old_length: usize, table: *mut u8, table_length: usize) -> PwsDone;
 }
 
 const GUARD: usize = 64;
@@ -108,7 +109,21 @@ impl Pws {
         bytes[start..start + buffer.len()].copy_from_slice(buffer);
         Lent { bytes, start, length: buffer.len() }
     }
+
+    /// A call that writes a table from bytes lent for reading.
+    fn write_table(&self, call: WriteTable, from: &[u8], table: &mut [u8]) -> Done {
+        let (mut lent_from, mut lent_table) = (self.lend(from), self.lend(table));
+        // SAFETY: each pointer is good for its length, and the copies don't overlap.
+        let written =
+            unsafe { call(lent_from.pointer(), from.len(), lent_table.pointer(), table.len()) };
+        lent_from.back_unchanged(from);
+        lent_table.back_into(table);
+        done(written)
+    }
 }
+
+/// The shape of building and of converting.
+type WriteTable = unsafe extern "C" fn(*const u8, usize, *mut u8, usize) -> PwsDone;
 
 fn done(done: PwsDone) -> Done {
     Done { number: done.number, length: done.length }
@@ -116,20 +131,13 @@ fn done(done: PwsDone) -> Done {
 
 impl Unit for Pws {
     fn build(&self, heads: &[u8], table: &mut [u8]) -> Done {
-        let (mut lent_heads, mut lent_table) = (self.lend(heads), self.lend(table));
-        // SAFETY: each pointer is good for its length, and the copies don't overlap.
-        let built = unsafe {
-            pws_build(lent_heads.pointer(), heads.len(), lent_table.pointer(), table.len())
-        };
-        lent_heads.back_unchanged(heads);
-        lent_table.back_into(table);
-        done(built)
+        self.write_table(pws_build, heads, table)
     }
 
     fn apply(&self, table: &mut [u8], record: &[u8], answer: &mut [u8]) -> Done {
         let (mut lent_table, mut lent_record) = (self.lend(table), self.lend(record));
         let mut lent_answer = self.lend(answer);
-        // SAFETY: as in build.
+        // SAFETY: as in write_table.
         let applied = unsafe {
             pws_apply(
                 lent_table.pointer(),
@@ -148,7 +156,7 @@ impl Unit for Pws {
 
     fn read(&self, record: &[u8]) -> Reading {
         let mut lent = self.lend(record);
-        // SAFETY: as in build.
+        // SAFETY: as in write_table.
         let reading = unsafe { pws_read(lent.pointer(), record.len()) };
         lent.back_unchanged(record);
         let PwsRequest { kind, flags, area, identifier, serial, content, .. } = reading.request;
@@ -166,7 +174,7 @@ impl Unit for Pws {
             PwsRequest { kind, flags, area, identifier, serial, content, period, requested, sib };
         let mut lent = self.lend(record);
         let lent_items = items.to_vec();
-        // SAFETY: as in build; an empty Vec's pointer is dangling and not null.
+        // SAFETY: as in write_table; an empty Vec's pointer is dangling and not null.
         let written = unsafe {
             pws_write(request, lent_items.as_ptr(), items.len(), lent.pointer(), record.len())
         };
@@ -177,7 +185,7 @@ impl Unit for Pws {
 
     fn item(&self, record: &[u8], k: usize) -> u64 {
         let mut lent = self.lend(record);
-        // SAFETY: as in build.
+        // SAFETY: as in write_table.
         let number = unsafe { pws_item(lent.pointer(), record.len(), k) };
         lent.back_unchanged(record);
         number
@@ -185,7 +193,7 @@ impl Unit for Pws {
 
     fn segment(&self, first: &[u8], more: &[u8], k: usize) -> Part {
         let (mut lent_first, mut lent_more) = (self.lend(first), self.lend(more));
-        // SAFETY: as in build.
+        // SAFETY: as in write_table.
         let PwsPart { number, buffer, start, length } = unsafe {
             pws_segment(lent_first.pointer(), first.len(), lent_more.pointer(), more.len(), k)
         };
@@ -212,5 +220,9 @@ impl Unit for Pws {
         lent_bytes.back_unchanged(bytes);
         lent_list.back_into(list);
         done(packed)
+    }
+
+    fn convert(&self, old: &[u8], table: &mut [u8]) -> Done {
+        self.write_table(pws_convert, old, table)
     }
 }

@@ -3,7 +3,7 @@
 use mathlib.Core.Path.{ap, _∙_}
 use Prim.Native.Nat.{_+_, _*_}
 use lib.Seq.{sets}
-use Rattle.rules.specs.Layout.{headSize, placeSize}
+use Rattle.rules.specs.Layout.{current, headSize, placeSize}
 use Rattle.places.proofs.ChangesLaws.{no-words}
 use borrow.Author.Needs.{needs}
 use Rattle.places.proofs.clear.Statement.{statement}
@@ -24,7 +24,7 @@ same-length c = search needs
 returns : tie.Need-returns
 returns c =
     let a = c .before .before .before .before .before .args in
-    c .before .before .store .ensures ∙ ap (sets (a .cell .now) (headSize + placeSize * a .k)) no-words
+    c .before .before .store .ensures ∙ ap (sets (a .cell .now) (headSize + placeSize current * a .k)) no-words
 
 pub clear-spec : {M : Type 1} → statement M
 clear-spec = tie.close (tie.spec mul-store add-store store-requires same-length returns)

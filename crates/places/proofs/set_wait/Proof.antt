@@ -6,30 +6,24 @@ use borrow.Author.Needs.{needs}
 use Rattle.places.proofs.set_wait.Statement.{statement}
 use Rattle.places.proofs.set_wait.Tie as tie
 
-mul-put16 : tie.Need-mul-put16
-mul-put16 c = search needs
+mul-put32 : tie.Need-mul-put32
+mul-put32 c = search needs
 
-add-put16 : tie.Need-add-put16
-add-put16 c = search needs
+add-put32 : tie.Need-add-put32
+add-put32 c = search needs
 
-add-put16-2 : tie.Need-add-put16-2
-add-put16-2 c = search needs
+add-put32-2 : tie.Need-add-put32-2
+add-put32-2 c = search needs
 
-cast-put16 : tie.Need-cast-put16
-cast-put16 c = search needs
-
-put16-requires : tie.Need-put16-requires
-put16-requires c κs = search needs
+put32-requires : tie.Need-put32-requires
+put32-requires c κs = search needs
 
 same-length : tie.Need-same-length
 same-length c = search needs
 
 returns : tie.Need-returns
-returns c =
-    let s = c .before .before .before .before .before .before in
-    c .before .before .put16 .ensures ∙ wait-stored (s .args .cell .now) (s .args .k) (s .pre .0) (s .args .wait .0)
+returns c = c .before .before .put32 .ensures ∙ wait-stored _ _ (search needs) _
 
 pub set-wait-spec : {M : Type 1} → statement M
 set-wait-spec =
-    tie.close
-    (tie.spec mul-put16 add-put16 add-put16-2 cast-put16 put16-requires same-length returns)
+    tie.close (tie.spec mul-put32 add-put32 add-put32-2 put32-requires same-length returns)

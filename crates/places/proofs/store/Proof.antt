@@ -15,14 +15,14 @@ add-put64 c = search needs
 put64-requires-2 : tie.Need-put64-requires-2
 put64-requires-2 c κs = search needs
 
-mul-put32 : tie.Need-mul-put32
-mul-put32 c = search needs
+mul-put64 : tie.Need-mul-put64
+mul-put64 c = search needs
 
-add-put32 : tie.Need-add-put32
-add-put32 c = search needs
+add-put64-2 : tie.Need-add-put64-2
+add-put64-2 c = search needs
 
-put32-requires : tie.Need-put32-requires
-put32-requires c κs = search needs
+put64-requires-3 : tie.Need-put64-requires-3
+put64-requires-3 c κs = search needs
 
 same-length : tie.Need-same-length
 same-length c = search needs
@@ -31,7 +31,7 @@ returns : tie.Need-returns
 unfolding wordBytes
 returns c =
     let a = c .before .before .before .before .before .before .before .before .before .before .before .before .before .args in
-    words-stored (a .to .now) (a .at) (a .words .first) (a .words .second) (a .words .third) _ _ _ (c .before .before .before .before .before .before .before .before .before .before .put64 .ensures) (c .before .before .before .before .before .before .put642 .ensures) (c .before .before .put32 .ensures)
+    words-stored (a .to .now) (a .at) (a .words .first) (a .words .second) (a .words .third) _ _ _ (c .before .before .before .before .before .before .before .before .before .before .put64 .ensures) (c .before .before .before .before .before .before .put642 .ensures) (c .before .before .put643 .ensures)
 
 pub store-spec : {M : Type 1} → statement M
 store-spec =
@@ -40,8 +40,8 @@ store-spec =
     put64-requires
     add-put64
     put64-requires-2
-    mul-put32
-    add-put32
-    put32-requires
+    mul-put64
+    add-put64-2
+    put64-requires-3
     same-length
     returns)

@@ -4,6 +4,7 @@ use mathlib.Core.Path.{sym}
 use Prim.Native.Nat.{_+_, _*_}
 use lib.Seq.{length-take-le}
 use borrow.Author.Needs.{needs}
+use Rattle.report.specs.Report.{tableSize}
 use Rattle.report.proofs.report.Statement.{statement}
 use Rattle.report.proofs.report.Tie as tie
 
@@ -68,7 +69,7 @@ slice-relend-prefix-with-heads : tie.Need-slice-relend-prefix-with-heads
 slice-relend-prefix-with-heads c = search needs
 
 slice-aggregate-with-heads : tie.Need-slice-aggregate-with-heads
-slice-aggregate-with-heads c = sym (length-take-le (16 + 104 * c .before .before .before .before .before .before .before .before .cells .result) (c .before .before .before .before .before .before .before .before .before .before .before .before .before .before .before .before .before .before .before .args .table .now) (omega arith))
+slice-aggregate-with-heads c = sym (length-take-le (tableSize (c .before .before .before .before .before .before .before .before .cells .result)) (c .before .before .before .before .before .before .before .before .before .before .before .before .before .before .before .before .before .before .before .args .table .now) (omega arith))
 
 mul-with-heads-2 : tie.Need-mul-with-heads-2
 mul-with-heads-2 c = search needs

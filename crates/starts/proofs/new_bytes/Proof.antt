@@ -1,8 +1,5 @@
 -- `new_bytes` returns the bytes of the place that a Write-Replace makes.
--- Its two calls, one behind the other; a new place's period is within its limit because the request's is.
-use Rattle.rules.specs.InCell.{newPlace}
-use Rattle.rules.proofs.StartLaws.{new-short}
-use native.Mathlib.Omega.{arith}
+-- Its two calls, one behind the other.
 use borrow.Author.Needs.{needs}
 use Rattle.starts.proofs.new_bytes.Statement.{statement}
 use Rattle.starts.proofs.new_bytes.Tie as tie
@@ -11,8 +8,7 @@ new-place-requires : tie.Need-new-place-requires
 new-place-requires c κs = search needs
 
 place-bytes-requires : tie.Need-place-bytes-requires
-unfolding newPlace
-place-bytes-requires c κs = rw (c .new-place .ensures) (new-short (c .before .args .request) (c .before .pre), omega arith)
+place-bytes-requires c κs = search needs
 
 returns : tie.Need-returns
 returns c = rw (c .place-bytes .ensures, c .before .new-place .ensures)

@@ -1,10 +1,10 @@
 -- `all_free` says whether the last places of a cell are free.
--- They are one to four, and written out in code and law; four are tested two by two.
+-- They are one to four, and written out in code and law.
 use mathlib.Core.Path.{_∙_}
 use native.Mathlib.Omega.{arith}
 use borrow.Author.Needs.{needs}
 use Rattle.rules.specs.Table.{isFree}
-use Rattle.table.proofs.PiecesLaws.{every-1, every-2, every-3, every-pairs}
+use Rattle.table.proofs.PiecesLaws.{every-1, every-2, every-3, every-4}
 use Rattle.table.proofs.all_free.Statement.{statement}
 use Rattle.table.proofs.all_free.Tie as tie
 
@@ -53,22 +53,39 @@ returns-3 c =
     rw (first .place-free4 .ensures, c .before .place-free5 .ensures, c .place-free6 .ensures)
     (every-3 isFree _ _ _ (start .pre .2) (first .before .if3 .taken))
 
-two-free-requires : tie.Need-two-free-requires
-two-free-requires c κs = search needs
+place-free-requires-7 : tie.Need-place-free-requires-7
+place-free-requires-7 c κs = search needs
 
-mul-two-free : tie.Need-mul-two-free
-mul-two-free c = search needs
+add-place-free-4 : tie.Need-add-place-free-4
+add-place-free-4 c = search needs
 
-add-two-free : tie.Need-add-two-free
-add-two-free c = search needs
+place-free-requires-8 : tie.Need-place-free-requires-8
+place-free-requires-8 c κs = search needs
 
-two-free-requires-2 : tie.Need-two-free-requires-2
-two-free-requires-2 c κs = search needs
+mul-place-free-2 : tie.Need-mul-place-free-2
+mul-place-free-2 c = search needs
+
+add-place-free-5 : tie.Need-add-place-free-5
+add-place-free-5 c = search needs
+
+place-free-requires-9 : tie.Need-place-free-requires-9
+place-free-requires-9 c κs = search needs
+
+mul-place-free-3 : tie.Need-mul-place-free-3
+mul-place-free-3 c = search needs
+
+add-place-free-6 : tie.Need-add-place-free-6
+add-place-free-6 c = search needs
+
+place-free-requires-10 : tie.Need-place-free-requires-10
+place-free-requires-10 c κs = search needs
 
 returns-4 : tie.Need-returns-4
 returns-4 c =
-    let start = c .before .before .before .before .before .before in
-    every-pairs isFree _ _ _ (start .pre .2) (omega arith) (c .before .two-free .ensures) (c .two-free2 .ensures)
+    let first = c .before .before .before in
+    let start = first .before .before .before .before .before in
+    rw (first .place-free7 .ensures, c .before .before .place-free8 .ensures, c .before .place-free9 .ensures, c .place-free10 .ensures)
+    (every-4 isFree _ _ _ (start .pre .2) (omega arith))
 
 pub all-free-spec : {M : Type 1} → statement M
 all-free-spec =
@@ -87,8 +104,13 @@ all-free-spec =
     add-place-free-3
     place-free-requires-6
     returns-3
-    two-free-requires
-    mul-two-free
-    add-two-free
-    two-free-requires-2
+    place-free-requires-7
+    add-place-free-4
+    place-free-requires-8
+    mul-place-free-2
+    add-place-free-5
+    place-free-requires-9
+    mul-place-free-3
+    add-place-free-6
+    place-free-requires-10
     returns-4)

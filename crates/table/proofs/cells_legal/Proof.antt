@@ -4,20 +4,20 @@ use mathlib.Core.Path.{sym}
 use Prim.Native.Nat.{_<_}
 use native.Mathlib.Omega.{arith}
 use borrow.Author.Needs.{needs}
-use Rattle.rules.specs.Layout.{cellSize, cellEnd}
+use Rattle.rules.specs.Layout.{current, cellSize, cellEnd}
 use Rattle.rules.specs.Table.{legalCell}
 use Rattle.table.proofs.OrderLaws.{RunsLeft, runs-start, runs-below, runs-wrong, runs-on, runs-small, runs-end, cell-small}
 use Rattle.table.proofs.cells_legal.Statement.{statement}
 use Rattle.table.proofs.cells_legal.Tie as tie
 
 abbrev Inv-loop : tie.InvT-loop
-Inv-loop cells count at₀ left₀ least₀ at left least = RunsLeft legalCell cellSize count cells at left least
+Inv-loop cells count at₀ left₀ least₀ at left least = RunsLeft (legalCell current) (cellSize current) count cells at left least
 
 abbrev μ-loop : tie.MeasureT-loop
 μ-loop cells count at₀ left₀ least₀ at left least = left
 
 loop-holds : tie.Need-loop-holds Inv-loop μ-loop
-loop-holds c = runs-start legalCell cellSize _ _ (c .before .pre)
+loop-holds c = runs-start (legalCell current) (cellSize current) _ _ (c .before .pre)
 
 add-end : tie.Need-add-end Inv-loop μ-loop
 add-end c = search needs
@@ -52,7 +52,7 @@ add-least : tie.Need-add-least Inv-loop μ-loop
 add-least c =
     let read = c .before .before .before .before in
     let loop = read .before .before in
-    let small : read .get64 .result < cellEnd = runs-small (loop .loop .inv) (read .before .loop-test .taken) (omega arith) _ (read .get64 .ensures) (c .before .before .before .if1 .left) _ (c .before .cell-legal .ensures) cell-small (c .if2 .left) in
+    let small : read .get64 .result < cellEnd = runs-small (loop .loop .inv) (read .before .loop-test .taken) (omega arith) _ (read .get64 .ensures) (c .before .before .before .if1 .left) _ (c .before .cell-legal .ensures) (cell-small current) (c .if2 .left) in
     omega arith
 
 sub-left : tie.Need-sub-left Inv-loop μ-loop

@@ -1,14 +1,15 @@
 -- `header_legal` says whether the header, mark and version apart, and the length are those of a table.
 -- A header that is not whole has the wrong length; else each read is a field.
+use native.Mathlib.Omega.{arith}
 use borrow.Author.Needs.{needs}
 use Rattle.rules.proofs.OffsetLaws.{count-at, places-at, spare-at}
 use Rattle.table.specs.Judge.{legalHeader}
-use Rattle.table.proofs.ReadLaws.{header-short}
+use Rattle.table.proofs.ReadLaws.{header-short, cells-most}
 use Rattle.table.proofs.header_legal.Statement.{statement}
 use Rattle.table.proofs.header_legal.Tie as tie
 
 returns : tie.Need-returns
-returns c = header-short _ (c .if1 .taken)
+returns c = header-short _ _ (c .if1 .taken)
 
 get16-requires : tie.Need-get16-requires
 get16-requires c κs = search needs
@@ -26,10 +27,10 @@ get64-requires : tie.Need-get64-requires
 get64-requires c κs = search needs
 
 mul-result : tie.Need-mul-result
-mul-result c = search needs
+mul-result c = let few = cells-most (c .before .before .get16 .ensures) (c .before .before .before .before .before .pre) in omega arith
 
 add-result : tie.Need-add-result
-add-result c = search needs
+add-result c = let few = cells-most (c .before .before .get16 .ensures) (c .before .before .before .before .before .pre) in omega arith
 
 returns-2 : tie.Need-returns-2
 unfolding legalHeader

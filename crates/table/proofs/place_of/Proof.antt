@@ -1,4 +1,4 @@
--- `place_of` returns the place that 20 bytes say.
+-- `place_of` returns the place that 24 bytes say.
 -- Each read is a field of the layout, by its offset.
 use borrow.Author.Needs.{needs}
 use Rattle.rules.specs.Table.{placeOf}
@@ -15,23 +15,17 @@ get16-requires-2 c κs = search needs
 get32-requires : tie.Need-get32-requires
 get32-requires c κs = search needs
 
+get32-requires-2 : tie.Need-get32-requires-2
+get32-requires-2 c κs = search needs
+
 get16-requires-3 : tie.Need-get16-requires-3
 get16-requires-3 c κs = search needs
-
-cast-t6 : tie.Need-cast-t6
-cast-t6 c = search needs
 
 get16-requires-4 : tie.Need-get16-requires-4
 get16-requires-4 c κs = search needs
 
-get16-requires-5 : tie.Need-get16-requires-5
-get16-requires-5 c κs = search needs
-
-get16-requires-6 : tie.Need-get16-requires-6
-get16-requires-6 c κs = search needs
-
-cast-t13 : tie.Need-cast-t13
-cast-t13 c = search needs
+get32-requires-3 : tie.Need-get32-requires-3
+get32-requires-3 c κs = search needs
 
 get8-requires : tie.Need-get8-requires
 get8-requires c κs = search needs
@@ -41,7 +35,7 @@ unfolding placeOf
 returns c =
     let b = c .before .before .before .before .before .before .before .before .before .args .place .now in
     let long = c .before .before .before .before .before .before .before .before .before .pre in
-    rw (c .before .before .before .before .before .before .before .get16 .ensures, identifier-at b long, c .before .before .before .before .before .before .get162 .ensures, serial-at b long, c .before .before .before .before .before .get32 .ensures, content-at b long, c .before .before .before .before .get163 .ensures, period-at b long, c .before .before .before .get164 .ensures, requested-at b long, c .before .before .get165 .ensures, sent-at b long, c .before .get166 .ensures, wait-at b long, c .get8 .ensures, sib-at b long)
+    rw (c .before .before .before .before .before .before .before .get16 .ensures, identifier-at b long, c .before .before .before .before .before .before .get162 .ensures, serial-at b long, c .before .before .before .before .before .get32 .ensures, content-at b long, c .before .before .before .before .get322 .ensures, period-at b long, c .before .before .before .get163 .ensures, requested-at b long, c .before .before .get164 .ensures, sent-at b long, c .before .get323 .ensures, wait-at b long, c .get8 .ensures, sib-at b long)
 
 pub place-of-spec : {M : Type 1} → statement M
 place-of-spec =
@@ -50,11 +44,9 @@ place-of-spec =
     get16-requires
     get16-requires-2
     get32-requires
+    get32-requires-2
     get16-requires-3
-    cast-t6
     get16-requires-4
-    get16-requires-5
-    get16-requires-6
-    cast-t13
+    get32-requires-3
     get8-requires
     returns)

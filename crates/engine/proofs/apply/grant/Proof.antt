@@ -1,7 +1,7 @@
 -- `grant` leaves what an accepted request leaves: the walk's table and rows behind the answer's head, or an answer without rows.
 -- By the two cases of an idle start.
 use mathlib.Core.Path.{sym, _∙_}
-use Rattle.engine.proofs.ApplyLaws.{long-record, long-table, answer-room, idle-granted, walk-granted, to-walk, short-period, call-req, call-table}
+use Rattle.engine.proofs.ApplyLaws.{long-record, long-table, answer-room, idle-granted, walk-granted, to-walk, call-req, call-table}
 use borrow.Author.Needs.{needs}
 use Rattle.engine.proofs.apply.grant.Statement.{statement}
 use Rattle.engine.proofs.apply.grant.Tie as tie
@@ -24,9 +24,7 @@ returns c =
     idle-granted (p .args .table .now) (p .args .req .now) (p .args .answer .now) (λ i. c .before .before .before .before .before .before .before .before .before .slice-known .given i .fits) (λ i. c .before .before .before .before .before .before .before .before .shared-slice-known .given i .fits) (p .pre) _ (c .before .before .before .before .before .before .request .ensures) (sym (c .before .before .before .before .before .idle .ensures) ∙ c .before .before .before .before .if1 .taken) _ (c .before .before .put-head .ensures)
 
 new-bytes-requires : tie.Need-new-bytes-requires
-new-bytes-requires c κs =
-    let p = c .before .before .before .before .before .before in
-    short-period (p .args .table .now) (p .args .req .now) (p .args .answer .now) (λ i. c .before .before .before .before .before .slice-known .given i .fits) (λ i. c .before .before .before .before .shared-slice-known .given i .fits) (p .pre) _ (c .before .before .request .ensures)
+new-bytes-requires c κs = search needs
 
 cells-of-requires : tie.Need-cells-of-requires
 cells-of-requires c κs = long-table _ (call-table _ _ _ (c .before .before .before .before .before .before .before .before .before .pre))

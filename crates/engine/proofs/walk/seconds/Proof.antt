@@ -6,7 +6,7 @@ use mathlib.Core.Path.{_≡_, refl, sym}
 use native.Mathlib.Omega.{arith}
 use lib.ListN.{length, take, drop}
 use lib.Seq.{sets}
-use Rattle.rules.specs.Layout.{cellSize, answerSize, placesPerCell, mostCells}
+use Rattle.rules.specs.Layout.{current, cellSize, answerSize, placesPerCell, mostCells}
 use Rattle.rules.specs.Table.{cellRuns}
 use Rattle.rules.specs.Record.{oneSecond, requestOf, itemsOf}
 use Rattle.rules.specs.Answer.{rowBytes}
@@ -20,9 +20,9 @@ use Rattle.engine.proofs.walk.seconds.Tie as tie
 
 abbrev Inv-cells : tie.InvT-cells
 Inv-cells table₀ cells req answer₀ at₀ out₀ rows₀ left₀ table answer at out rows left =
-    GoingOn (requestOf req) (itemsOf req) (tableAfter (requestOf req) (itemsOf req) table₀ (cellRuns table₀))
-    (sets answer₀ answerSize (flatMap rowBytes (rowsAfter (requestOf req) (itemsOf req) (cellRuns table₀))))
-    (length (rowsAfter (requestOf req) (itemsOf req) (cellRuns table₀))) (placesPerCell * mostCells) (length table₀) (length answer₀) table answer at out rows left
+    GoingOn (requestOf req) (itemsOf req) (tableAfter (requestOf req) (itemsOf req) table₀ (cellRuns current table₀))
+    (sets answer₀ answerSize (flatMap rowBytes (rowsAfter (requestOf req) (itemsOf req) (cellRuns current table₀))))
+    (length (rowsAfter (requestOf req) (itemsOf req) (cellRuns current table₀))) (placesPerCell * mostCells) (length table₀) (length answer₀) table answer at out rows left
 
 abbrev μ-cells : tie.MeasureT-cells
 μ-cells table₀ cells req answer₀ at₀ out₀ rows₀ left₀ table answer at out rows left = left
@@ -60,9 +60,9 @@ second-in-cell-requires : tie.Need-second-in-cell-requires Inv-cells μ-cells
 second-in-cell-requires c κs =
     let l = c .before .before .before .cells in
     let p = c .before .before .before .before .before .before .before in
-    let k : l .at + cellSize - l .at ≡ cellSize = omega arith in
+    let k : l .at + cellSize current - l .at ≡ cellSize current = omega arith in
     ready-for (requestOf (p .args .req .now) .kind) placesPerCell _ _ (rows-of-kind (requestOf (p .args .req .now) .kind) oneSecond placesPerCell (p .pre .second) refl)
-    (asked _ _ _ _ _ _ _ _ _ _ _ _ _ _ (l .inv) (c .before .before .cells-test .taken) (l .at + cellSize - l .at) (length (l .answer) - l .out) k refl)
+    (asked _ _ _ _ _ _ _ _ _ _ _ _ _ _ (l .inv) (c .before .before .cells-test .taken) (l .at + cellSize current - l .at) (length (l .answer) - l .out) k refl)
 
 mul-out : tie.Need-mul-out Inv-cells μ-cells
 mul-out c = omega (arith, c .before .before .before .before .before .second-in-cell .ensures .few)
@@ -86,8 +86,8 @@ cells-again c =
     let p = c .before .before .before .before .before .before .before .before .before .before .before .before .before in
     let q = requestOf (p .args .req .now) in
     let s = c .before .before .before .before .before .second-in-cell in
-    let k : l .at + cellSize - l .at ≡ cellSize = omega arith in
-    stepped _ _ _ _ _ _ _ _ _ _ _ _ _ _ (l .inv) (c .before .before .before .before .before .before .before .before .cells-test .taken) (second-reaches _ _ _ _ (p .pre) (take cellSize (drop (l .at) (l .table)))) (l .at + cellSize - l .at) (length (l .answer) - l .out) k refl
+    let k : l .at + cellSize current - l .at ≡ cellSize current = omega arith in
+    stepped _ _ _ _ _ _ _ _ _ _ _ _ _ _ (l .inv) (c .before .before .before .before .before .before .before .before .cells-test .taken) (second-reaches _ _ _ _ (p .pre) (take (cellSize current) (drop (l .at) (l .table)))) (l .at + cellSize current - l .at) (length (l .answer) - l .out) k refl
     (s .last .0) (s .last .1 .0) (s .result)
     (stepped-by q _ _ placesPerCell _ _ _ _ _ (inCell-second q _ (p .pre .second)) (rows-of-kind (q .kind) oneSecond placesPerCell (p .pre .second) refl) (s .ensures)) (s .kept .0)
 
@@ -100,8 +100,8 @@ cells-again-2 c =
     let p = c .before .before .before .before .before .before .before .before .before .before .before .before .before in
     let q = requestOf (p .args .req .now) in
     let s = c .before .before .before .before .before .second-in-cell in
-    let k : l .at + cellSize - l .at ≡ cellSize = omega arith in
-    stepped-silent _ _ _ _ _ _ _ _ _ _ _ _ _ _ (l .inv) (c .before .before .before .before .before .before .before .before .cells-test .taken) (second-reaches _ _ _ _ (p .pre) (take cellSize (drop (l .at) (l .table)))) (l .at + cellSize - l .at) (length (l .answer) - l .out) k refl
+    let k : l .at + cellSize current - l .at ≡ cellSize current = omega arith in
+    stepped-silent _ _ _ _ _ _ _ _ _ _ _ _ _ _ (l .inv) (c .before .before .before .before .before .before .before .before .cells-test .taken) (second-reaches _ _ _ _ (p .pre) (take (cellSize current) (drop (l .at) (l .table)))) (l .at + cellSize current - l .at) (length (l .answer) - l .out) k refl
     (s .last .0) (s .last .1 .0) (s .result)
     (stepped-by q _ _ placesPerCell _ _ _ _ _ (inCell-second q _ (p .pre .second)) (rows-of-kind (q .kind) oneSecond placesPerCell (p .pre .second) refl) (s .ensures)) (s .kept .0) (c .if1 .left)
 

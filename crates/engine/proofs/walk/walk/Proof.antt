@@ -11,7 +11,7 @@ use lib.Dec.{eqb}
 use lib.ListN.{length, take, drop}
 use lib.Seq.{sets}
 use Rattle.rules.specs.Lists.{any}
-use Rattle.rules.specs.Layout.{cellSize, itemSize, answerSize, placesPerCell, mostCells}
+use Rattle.rules.specs.Layout.{current, cellSize, itemSize, answerSize, placesPerCell, mostCells}
 use Rattle.rules.specs.Table.{cellOf, cellRuns}
 use Rattle.rules.specs.Record.{itemsOf}
 use Rattle.rules.specs.Reach.{reaches}
@@ -32,7 +32,7 @@ cond-true false = refl
 abbrev Inv-items : tie.InvT-items
 Inv-items table cells req items request new answer area at out rows left start naming reached₀ from₀ todo₀ reached from todo =
     (from + itemSize * todo ≤ length req)
-    × (reaches area (itemsOf req) (cellOf (take cellSize (drop start table)) .head) ≡ cond reached true (any (byKeys naming) (itemsFrom from todo req)))
+    × (reaches area (itemsOf req) (cellOf current (take (cellSize current) (drop start table)) .head) ≡ cond reached true (any (byKeys naming) (itemsFrom from todo req)))
 
 abbrev μ-items : tie.MeasureT-items
 μ-items table cells req items request new answer area at out rows left start naming reached₀ from₀ todo₀ reached from todo =
@@ -40,9 +40,9 @@ abbrev μ-items : tie.MeasureT-items
 
 abbrev Inv-cells : tie.InvT-cells
 Inv-cells table₀ cells req items request new answer₀ area at₀ out₀ rows₀ left₀ table answer at out rows left =
-    GoingOn request (itemsOf req) (tableAfter request (itemsOf req) table₀ (cellRuns table₀))
-    (sets answer₀ answerSize (flatMap rowBytes (rowsAfter request (itemsOf req) (cellRuns table₀))))
-    (length (rowsAfter request (itemsOf req) (cellRuns table₀))) (placesPerCell * mostCells) (length table₀) (length answer₀) table answer at out rows left
+    GoingOn request (itemsOf req) (tableAfter request (itemsOf req) table₀ (cellRuns current table₀))
+    (sets answer₀ answerSize (flatMap rowBytes (rowsAfter request (itemsOf req) (cellRuns current table₀))))
+    (length (rowsAfter request (itemsOf req) (cellRuns current table₀))) (placesPerCell * mostCells) (length table₀) (length answer₀) table answer at out rows left
 
 abbrev μ-cells : tie.MeasureT-cells
 μ-cells table₀ cells req items request new answer₀ area at₀ out₀ rows₀ left₀ table answer at out rows left =
@@ -89,7 +89,7 @@ part-naming-of-end c = omega arith
 naming-of-requires : tie.Need-naming-of-requires Inv-items μ-items Inv-cells μ-cells
 naming-of-requires c κs =
     let l = c .before .before .before .cells in
-    let k : l .at + cellSize - l .at ≡ cellSize = omega arith in
+    let k : l .at + cellSize current - l .at ≡ cellSize current = omega arith in
     rw k (cell-long _ _ _ _ _ _ _ _ _ _ _ _ _ _ _ (l .inv) (c .before .before .cells-test .taken))
 
 to-search-requires : tie.Need-to-search-requires Inv-items μ-items Inv-cells μ-cells
@@ -99,10 +99,10 @@ items-holds : tie.Need-items-holds Inv-items μ-items Inv-cells μ-cells
 items-holds c =
     let p = c .before .before .before .before .before .before .before .before .before .before .before .before in
     let l = c .before .before .before .before .before .cells in
-    let k : l .at + cellSize - l .at ≡ cellSize = omega arith in (
+    let k : l .at + cellSize current - l .at ≡ cellSize current = omega arith in (
       search-span _ _ _ _ _ _ _ (p .pre) (eqb (c .before .naming-of .result .keys) 0) _ (c .to-search .ensures),
-      search-start (p .args .request .area) (p .args .req .now) (p .args .items) (c .to-search .result) (take cellSize (drop (l .at) (l .table))) (c .before .naming-of .result) (p .pre .all-items) (c .to-search .ensures)
-          (named-here (l .table) (l .at) (l .at + cellSize - l .at) (p .args .request .area) (c .before .naming-of .result) k (c .before .naming-of .ensures)),
+      search-start (p .args .request .area) (p .args .req .now) (p .args .items) (c .to-search .result) (take (cellSize current) (drop (l .at) (l .table))) (c .before .naming-of .result) (p .pre .all-items) (c .to-search .ensures)
+          (named-here (l .table) (l .at) (l .at + cellSize current - l .at) (p .args .request .area) (c .before .naming-of .result) k (c .before .naming-of .ensures)),
     )
 
 among-four-requires : tie.Need-among-four-requires Inv-items μ-items Inv-cells μ-cells
@@ -136,7 +136,7 @@ reached-at-last-requires c κs =
 
 -- whether the cell is reached, where the search has ended
 found : (c : tie.After-reached-at-last Inv-items μ-items Inv-cells μ-cells)
-    → reaches (c .before .before .before .before .before .before .before .before .before .before .before .before .before .before .before .args .request .area) (itemsOf (c .before .before .before .before .before .before .before .before .before .before .before .before .before .before .before .args .req .now)) (cellOf (take cellSize (drop (c .before .before .before .before .before .before .before .before .cells .at) (c .before .before .before .before .before .before .before .before .cells .table))) .head) ≡ c .reached-at-last .result
+    → reaches (c .before .before .before .before .before .before .before .before .before .before .before .before .before .before .before .args .request .area) (itemsOf (c .before .before .before .before .before .before .before .before .before .before .before .before .before .before .before .args .req .now)) (cellOf current (take (cellSize current) (drop (c .before .before .before .before .before .before .before .before .cells .at) (c .before .before .before .before .before .before .before .before .cells .table))) .head) ≡ c .reached-at-last .result
 found c =
     let i = c .before .before .items in
     let p = c .before .before .before .before .before .before .before .before .before .before .before .before .before .before .before in
@@ -172,8 +172,8 @@ part-step-cell-end-2 c = omega arith
 step-cell-requires : tie.Need-step-cell-requires Inv-items μ-items Inv-cells μ-cells
 step-cell-requires c κs =
     let l = c .before .before .before .before .before .before .before .before .before .before .before .cells in
-    let k : l .at + cellSize - l .at ≡ cellSize = omega arith in
-    (asked _ _ _ _ _ _ _ _ _ _ _ _ _ _ (l .inv) (c .before .before .before .before .before .before .before .before .before .before .cells-test .taken) (l .at + cellSize - l .at) (length (l .answer) - l .out) k refl, (c .before .before .before .before .before .before .before .before .before .before .before .before .before .before .before .before .before .before .pre .to-step, c .before .before .before .before .before .before .before .before .before .before .before .before .if1 .left))
+    let k : l .at + cellSize current - l .at ≡ cellSize current = omega arith in
+    (asked _ _ _ _ _ _ _ _ _ _ _ _ _ _ (l .inv) (c .before .before .before .before .before .before .before .before .before .before .cells-test .taken) (l .at + cellSize current - l .at) (length (l .answer) - l .out) k refl, (c .before .before .before .before .before .before .before .before .before .before .before .before .before .before .before .before .before .before .pre .to-step, c .before .before .before .before .before .before .before .before .before .before .before .before .if1 .left))
 
 mul-out : tie.Need-mul-out Inv-items μ-items Inv-cells μ-cells
 mul-out c = omega (arith, c .before .before .before .before .before .step-cell .ensures .few, few-rows (c .before .before .before .before .before .before .before .before .before .before .before .before .before .before .before .before .before .before .before .before .before .before .before .before .args .request .kind))
@@ -195,8 +195,8 @@ cells-again : tie.Need-cells-again Inv-items μ-items Inv-cells μ-cells
 cells-again c =
     let l = c .before .before .before .before .before .before .before .before .before .before .before .before .before .before .before .before .before .cells in
     let s = c .before .before .before .before .before .step-cell in
-    let k : l .at + cellSize - l .at ≡ cellSize = omega arith in
-    stepped _ _ _ _ _ _ _ _ _ _ _ _ _ _ (l .inv) (c .before .before .before .before .before .before .before .before .before .before .before .before .before .before .before .before .cells-test .taken) (found (c .before .before .before .before .before .before .before .before .before) ∙ c .before .before .before .before .before .before .before .before .if3 .taken) (l .at + cellSize - l .at) (length (l .answer) - l .out) k refl
+    let k : l .at + cellSize current - l .at ≡ cellSize current = omega arith in
+    stepped _ _ _ _ _ _ _ _ _ _ _ _ _ _ (l .inv) (c .before .before .before .before .before .before .before .before .before .before .before .before .before .before .before .before .cells-test .taken) (found (c .before .before .before .before .before .before .before .before .before) ∙ c .before .before .before .before .before .before .before .before .if3 .taken) (l .at + cellSize current - l .at) (length (l .answer) - l .out) k refl
     (s .last .0) (s .last .1 .1 .1 .0) (s .result) (s .ensures) (s .kept .0)
 
 cells-less-2 : tie.Need-cells-less-2 Inv-items μ-items Inv-cells μ-cells
@@ -206,8 +206,8 @@ cells-again-2 : tie.Need-cells-again-2 Inv-items μ-items Inv-cells μ-cells
 cells-again-2 c =
     let l = c .before .before .before .before .before .before .before .before .before .before .before .before .before .before .before .before .before .cells in
     let s = c .before .before .before .before .before .step-cell in
-    let k : l .at + cellSize - l .at ≡ cellSize = omega arith in
-    stepped-silent _ _ _ _ _ _ _ _ _ _ _ _ _ _ (l .inv) (c .before .before .before .before .before .before .before .before .before .before .before .before .before .before .before .before .cells-test .taken) (found (c .before .before .before .before .before .before .before .before .before) ∙ c .before .before .before .before .before .before .before .before .if3 .taken) (l .at + cellSize - l .at) (length (l .answer) - l .out) k refl
+    let k : l .at + cellSize current - l .at ≡ cellSize current = omega arith in
+    stepped-silent _ _ _ _ _ _ _ _ _ _ _ _ _ _ (l .inv) (c .before .before .before .before .before .before .before .before .before .before .before .before .before .before .before .before .cells-test .taken) (found (c .before .before .before .before .before .before .before .before .before) ∙ c .before .before .before .before .before .before .before .before .if3 .taken) (l .at + cellSize current - l .at) (length (l .answer) - l .out) k refl
     (s .last .0) (s .last .1 .1 .1 .0) (s .result) (s .ensures) (s .kept .0) (c .if4 .left)
 
 cells-less-3 : tie.Need-cells-less-3 Inv-items μ-items Inv-cells μ-cells

@@ -14,9 +14,6 @@ put32-requires c κs = search needs
 add-put8 : tie.Need-add-put8
 add-put8 c = search needs
 
-cast-put8 : tie.Need-cast-put8
-cast-put8 c = search needs
-
 put8-requires : tie.Need-put8-requires
 put8-requires c κs = search needs
 
@@ -29,4 +26,4 @@ returns c = mark-put (c .before .before .before .before .before .before .before 
 pub put-mark-spec : {M : Type 1} → statement M
 put-mark-spec =
     tie.close
-    (tie.spec mul-put32 put32-requires add-put8 cast-put8 put8-requires same-length returns)
+    (tie.spec mul-put32 put32-requires add-put8 put8-requires same-length returns)

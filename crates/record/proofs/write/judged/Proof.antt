@@ -2,6 +2,7 @@
 -- What each test found is put into the order of the tests, by the laws of JudgeLaws.
 use borrow.Author.Needs.{needs}
 use mathlib.Core.Path.{refl}
+use Rattle.rules.specs.Layout.{current, longestPeriod}
 use Rattle.record.proofs.JudgeLaws.{fields-refused, text-refused, items-refused, cancel-refused, request-allowed}
 use Rattle.record.proofs.write.judged.Statement.{statement}
 use Rattle.record.proofs.write.judged.Tie as tie
@@ -17,7 +18,7 @@ returns c =
     let start = c .before .before .before .before in
     let kind = c .before .before .kind-allows .ensures in
     let area = c .before .area-fits .ensures in
-    fields-refused (start .args .request) (start .args .items .now) refl kind area (c .if1 .taken)
+    fields-refused (longestPeriod current) (start .args .request) (start .args .items .now) refl kind area (c .if1 .taken)
 
 text-within-requires : tie.Need-text-within-requires
 text-within-requires c κs = search needs
@@ -27,7 +28,7 @@ returns-2 c =
     let start = c .before .before .before .before .before .before in
     let kind = c .before .before .before .before .kind-allows .ensures in
     let area = c .before .before .before .area-fits .ensures in
-    text-refused (start .args .request) (start .args .items .now) refl kind area (c .before .before .if1 .left) (c .before .text-within .ensures) (c .if2 .taken)
+    text-refused (longestPeriod current) (start .args .request) (start .args .items .now) refl kind area (c .before .before .if1 .left) (c .before .text-within .ensures) (c .if2 .taken)
 
 items-small-requires : tie.Need-items-small-requires
 items-small-requires c κs = search needs
@@ -37,7 +38,7 @@ returns-3 c =
     let start = c .before .before .before .before .before .before .before .before in
     let kind = c .before .before .before .before .before .before .kind-allows .ensures in
     let area = c .before .before .before .before .before .area-fits .ensures in
-    items-refused (start .args .request) (start .args .items .now) refl kind area (c .before .before .before .before .if1 .left) (c .before .before .before .text-within .ensures) (c .before .before .if2 .left) (c .before .items-small .ensures) (c .if3 .taken)
+    items-refused (longestPeriod current) (start .args .request) (start .args .items .now) refl kind area (c .before .before .before .before .if1 .left) (c .before .before .before .text-within .ensures) (c .before .before .if2 .left) (c .before .items-small .ensures) (c .if3 .taken)
 
 cancels-nothing-requires : tie.Need-cancels-nothing-requires
 cancels-nothing-requires c κs = search needs
@@ -47,14 +48,14 @@ returns-4 c =
     let start = c .before .before .before .before .before .before .before .before .before .before in
     let kind = c .before .before .before .before .before .before .before .before .kind-allows .ensures in
     let area = c .before .before .before .before .before .before .before .area-fits .ensures in
-    cancel-refused (start .args .request) (start .args .items .now) refl kind area (c .before .before .before .before .before .before .if1 .left) (c .before .before .before .before .before .text-within .ensures) (c .before .before .before .before .if2 .left) (c .before .before .before .items-small .ensures) (c .before .before .if3 .left) (c .before .cancels-nothing .ensures) (c .if4 .taken)
+    cancel-refused (longestPeriod current) (start .args .request) (start .args .items .now) refl kind area (c .before .before .before .before .before .before .if1 .left) (c .before .before .before .before .before .text-within .ensures) (c .before .before .before .before .if2 .left) (c .before .before .before .items-small .ensures) (c .before .before .if3 .left) (c .before .cancels-nothing .ensures) (c .if4 .taken)
 
 returns-5 : tie.Need-returns-5
 returns-5 c =
     let start = c .before .before .before .before .before .before .before .before .before .before in
     let kind = c .before .before .before .before .before .before .before .before .kind-allows .ensures in
     let area = c .before .before .before .before .before .before .before .area-fits .ensures in
-    request-allowed (start .args .request) (start .args .items .now) refl kind area (c .before .before .before .before .before .before .if1 .left) (c .before .before .before .before .before .text-within .ensures) (c .before .before .before .before .if2 .left) (c .before .before .before .items-small .ensures) (c .before .before .if3 .left) (c .before .cancels-nothing .ensures) (c .if4 .left)
+    request-allowed (longestPeriod current) (start .args .request) (start .args .items .now) refl kind area (c .before .before .before .before .before .before .if1 .left) (c .before .before .before .before .before .text-within .ensures) (c .before .before .before .before .if2 .left) (c .before .before .before .items-small .ensures) (c .before .before .if3 .left) (c .before .cancels-nothing .ensures) (c .if4 .left)
 
 pub judged-spec : {M : Type 1} → statement M
 judged-spec =

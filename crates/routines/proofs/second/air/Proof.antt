@@ -1,8 +1,6 @@
 -- `air` stores the counts of a broadcast, writes its row and says whether it was the last one.
 -- What each call read or stored, handed to `aired`.
 use mathlib.Core.Path.{ap, _∙_}
-use native.Mathlib.Omega.{arith}
-use Rattle.rules.specs.declared.Seconds.{Seconds}
 use Rattle.rules.specs.declared.Broadcasts.{Broadcasts}
 use Rattle.routines.proofs.Airing.{aired}
 use borrow.Author.Needs.{needs}
@@ -28,10 +26,7 @@ content-requires : tie.Need-content-requires
 content-requires c κs = search needs
 
 set-counts-requires : tie.Need-set-counts-requires
-set-counts-requires c κs =
-    let s = c .before .before .before .before .before .before .before .before .before .before .before .before .before in
-    let period = ap (λ (x : Seconds). x .0) (c .before .before .before .before .before .before .before .before .before .terms-of .ensures .0) in
-    (s .pre .at, omega (arith, c .before .before .before .before .before .one-less .ensures, period, s .pre .period))
+set-counts-requires c κs = search needs
 
 mul-put-row : tie.Need-mul-put-row
 mul-put-row c = search needs

@@ -8,7 +8,7 @@ use Rattle.rules.specs.Layout.{placesPerCell}
 use Rattle.rules.specs.declared.Seconds.{Seconds}
 use Rattle.cell.proofs.PlacesLaws.{live-few, live-at}
 use Rattle.routines.proofs.Passing.{is-live, is-free}
-use Rattle.routines.proofs.Ticking.{Ticking, ticks-start, tick-short, tick-to-air, tick-airs, tick-waits, tick-ends}
+use Rattle.routines.proofs.Ticking.{Ticking, ticks-start, tick-to-air, tick-airs, tick-waits, tick-ends}
 use Rattle.routines.proofs.second.all_later.Statement.{statement}
 use Rattle.routines.proofs.second.all_later.Tie as tie
 
@@ -63,7 +63,7 @@ set-wait-requires : tie.Need-set-wait-requires Inv-places μ-places
 set-wait-requires c κs =
     let inv = c .before .before .before .before .before .before .before .before .before .before .places .inv in
     let live = is-live (c .before .before .before .before .before .before .before .is-live .ensures) (c .before .before .before .before .before .before .if1 .left) in
-    (live-at _ (inv .formed) _ live, omega (arith, c .one-less .ensures, seconds (c .before .before .before .before .wait .ensures), tick-short inv live .1))
+    live-at _ (inv .formed) _ live
 
 places-less-2 : tie.Need-places-less-2 Inv-places μ-places
 places-less-2 c = search needs

@@ -1,0 +1,5 @@
+pub mod WideLaws
+pub mod WideCellLaws
+pub mod StoreLaws
+pub mod ConvertLaws
+pub mod Once
