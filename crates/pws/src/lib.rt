@@ -88,7 +88,7 @@ pub extern "C" fn pws_read(req: &[u8]) -> PwsReading
 pub extern "C" fn pws_write(request: Request, items: &[u64], buffer: &mut [u8]) -> PwsDone
     ensures { λ r. ⌜ filled r (now (buffer .exit)) ≡ written request (now (items .entry)) (now (buffer .entry)) ⌝ }
 {
-    done(record::write::write(request, items, buffer))
+    done(writer::write(request, items, buffer))
 }
 
 #[no_mangle]

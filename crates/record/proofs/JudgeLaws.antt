@@ -5,11 +5,9 @@ use mathlib.Core.Bool.{Bool, true, false, cond, not, _&&_, _||_, true≢false, a
 use mathlib.Core.List.{List, [], _∷_}
 use Prim.Native.Nat.{ℕ, zero, suc}
 use native.Mathlib.Omega.{arith}
-use lib.Bits.{bitOr, or-zero-l}
 use lib.Dec.{eqb, ltb, leb}
 use lib.ListN.{length}
 use borrow.Author.Tests.{lt-leb, ne-eqb, not-true, not-false}
-use Rattle.octets.proofs.JoinedLaws.{or-le-left}
 use Rattle.rules.specs.Lists.{any, every, oneOf, zeros}
 use Rattle.rules.specs.Record.{kindAllows, areaFits, itemEnd, withinLimits, cancelsNothing}
 use Rattle.rules.specs.Refusals.{requestVerdict}
@@ -36,12 +34,6 @@ zeros-none = refl
 pub zeros-more : (x : ℕ) (xs : List ℕ) → zeros (x ∷ xs) ≡ eqb x 0 && zeros xs
 unfolding zeros every
 zeros-more x xs = refl
-
--- two fields in one test
-pub both-zero : (a b : ℕ) → eqb (bitOr a b) 0 ≡ eqb a 0 && eqb b 0
-both-zero zero b = rw (or-zero-l b)
-both-zero (suc a) b =
-    rw (ne-eqb (suc a) 0 (λ e. omega arith)) (ne-eqb (bitOr (suc a) b) 0 (λ e. omega (arith, or-le-left (suc a) b)))
 
 -- zero where a test fails
 pub zeros-unless : (b : Bool) (xs : List ℕ) → zeros (cond b [] xs) ≡ b || zeros xs

@@ -1,7 +1,5 @@
-mod JudgeLaws
+pub mod JudgeLaws
 mod ReadLaws
-mod SmallLaws
-mod WriteLaws
+pub mod SmallLaws
 pub mod Items
-pub mod Trips
 pub mod Once

@@ -3,13 +3,10 @@
 use mathlib.Core.Path.{_≡_, refl, _∙_}
 use mathlib.Core.Bool.{Bool, true, false, cond, _&&_}
 use mathlib.Core.List.{List, [], _∷_}
-use Prim.Native.Nat.{ℕ, _+_, _^_, _<_, _≤_}
-use native.Mathlib.Numerals.{add-one}
+use Prim.Native.Nat.{ℕ, _^_}
 use native.Mathlib.Omega.{arith}
 use lib.Bits.{bitOr, or-lt}
 use lib.Dec.{eqb, ltb}
-use lib.ListN.{length, drop, getD, drop-of-length-le}
-use lib.Seq.{drop-cons}
 use borrow.Author.Tests.{ltb-true, ltb-false, lt-ltb, le-ltb}
 use Rattle.octets.specs.Joined.{joined}
 use Rattle.octets.proofs.JoinedLaws.{or-le-left, or-le-right}
@@ -46,18 +43,3 @@ all-small area xs = go (eqb area cellArea) (eqb area trackingArea)
     go true q = joined-small 60 0 xs
     go false true = joined-small 48 0 xs
     go false false = joined-small 24 0 xs
-
-pub none-large : (f : ℕ → Bool) (xs : List ℕ) → length xs ≡ 0 → true ≡ every f xs
-unfolding every
-none-large f [] e = refl
-none-large f (x ∷ xs) e = absurd (omega arith)
-
--- ---- met one by one
-
-pub joined-more : (a : ℕ) (xs : List ℕ) (k : ℕ) → k < length xs → joined a (drop k xs) ≡ joined (bitOr a (getD xs k 0)) (drop (k + 1) xs)
-unfolding joined
-joined-more a xs k h = rw (drop-cons xs k 0 h, add-one)
-
-pub joined-all : (a : ℕ) (xs : List ℕ) (k : ℕ) → length xs ≤ k → joined a (drop k xs) ≡ a
-unfolding joined
-joined-all a xs k h = rw (drop-of-length-le xs h)

@@ -1,6 +1,5 @@
-// A request record in lent bytes: judged, read, its items, and written.
+// A request record in lent bytes: judged, read, its items. The writer is a crate of its own, over the same tests.
 // What its bytes say, and which requests are allowed, stands in the crate rules.
-mod judge;
+pub mod judge;
 mod mark;
 pub mod read;
-pub mod write;

@@ -1,0 +1,4 @@
+mod JudgeLaws
+mod WriteLaws
+pub mod Trips
+pub mod Once
