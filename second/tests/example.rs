@@ -1,8 +1,8 @@
 //! Document 01's example of the program, whole.
 
-use std::io::Write;
-use std::process::{Command, Stdio};
+mod programs;
 
+use programs::{printed, programs};
 use second::request::*;
 use second::{Broadcasts, CellIdentity, Head, Record, Request, Seconds};
 
@@ -61,14 +61,8 @@ fn the_library_reports_the_example() {
 }
 
 #[test]
-fn the_program_reports_the_example() {
-    let mut program = Command::new(env!("CARGO_BIN_EXE_report"))
-        .stdin(Stdio::piped())
-        .stdout(Stdio::piped())
-        .spawn()
-        .unwrap();
-    program.stdin.take().unwrap().write_all(&input()).unwrap();
-    let finished = program.wait_with_output().unwrap();
-    assert!(finished.status.success());
-    assert_eq!(String::from_utf8(finished.stdout).unwrap(), OUTPUT);
+fn the_programs_report_the_example() {
+    for program in programs() {
+        assert_eq!(printed(&program, &input()), OUTPUT, "{program}");
+    }
 }

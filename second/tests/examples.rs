@@ -1,31 +1,24 @@
 //! The examples, each a script beside what the program reports of it. Where the report has a line
 //! many times in a row, what is kept has it once and says how many times.
 
-use std::env;
+mod programs;
+
 use std::fs;
 use std::path::{Path, PathBuf};
-use std::process::{Command, Stdio};
+use std::process::Command;
+
+use programs::{printed, programs};
 
 fn examples() -> PathBuf {
     Path::new(env!("CARGO_MANIFEST_DIR")).join("../examples")
 }
 
-/// The own report program and, where PWS_REPORT names it, the first implementation's.
-fn programs() -> Vec<String> {
-    let own = env!("CARGO_BIN_EXE_report").to_string();
-    [own].into_iter().chain(env::var("PWS_REPORT")).collect()
-}
-
 /// The outcome of `script < path | report`.
 fn reported(path: &Path, program: &str) -> String {
-    let mut script = Command::new(env!("CARGO_BIN_EXE_script"))
-        .stdin(fs::File::open(path).unwrap())
-        .stdout(Stdio::piped())
-        .spawn()
-        .unwrap();
-    let report = Command::new(program).stdin(script.stdout.take().unwrap()).output().unwrap();
-    assert!(script.wait().unwrap().success() && report.status.success(), "{}", path.display());
-    String::from_utf8(report.stdout).unwrap()
+    let input = fs::File::open(path).unwrap();
+    let script = Command::new(env!("CARGO_BIN_EXE_script")).stdin(input).output().unwrap();
+    assert!(script.status.success(), "{}", path.display());
+    printed(program, &script.stdout)
 }
 
 /// A report as it is kept, so that hours without a broadcast are short to read.

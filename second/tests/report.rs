@@ -2,50 +2,21 @@
 //! first implementation's program comes from the environment variable PWS_REPORT.
 
 mod given;
+mod programs;
 
 use std::env;
-use std::io::{ErrorKind, Write};
-use std::process::{Command, Stdio};
-use std::thread;
 use std::time::Duration;
 
 use given::heads::{count, heads};
 use given::random::{say, seed, Random};
 use given::records::{encoded, in_area, record};
 use given::wrong_records::WrongRecords;
+use programs::{printed, printed_of_pieces, programs};
 use second::request::{IN_CELLS, WRITE_REPLACE};
 use second::{Head, Record};
 
 const OWN: &str = env!("CARGO_BIN_EXE_report");
 const INPUTS: usize = 40;
-
-/// What a program prints on standard output.
-fn printed(program: &str, input: &[u8]) -> String {
-    printed_of_pieces(program, input, input.len().max(1), Duration::ZERO)
-}
-
-/// The same, for an input that comes in pieces of a length, with a pause behind each.
-fn printed_of_pieces(program: &str, input: &[u8], length: usize, pause: Duration) -> String {
-    let mut child = Command::new(program)
-        .stdin(Stdio::piped())
-        .stdout(Stdio::piped())
-        .spawn()
-        .unwrap_or_else(|error| panic!("{program}: {error}"));
-    let mut stdin = child.stdin.take().expect("standard input is piped");
-    let input = input.to_vec();
-    let writer = thread::spawn(move || {
-        input.chunks(length).try_for_each(|piece| {
-            thread::sleep(pause);
-            stdin.write_all(piece)
-        })
-    });
-    let output = child.wait_with_output().expect("the program ends");
-    // A program that stops at a refusal need not read the rest.
-    match writer.join().expect("writing does not panic") {
-        Err(error) if error.kind() != ErrorKind::BrokenPipe => panic!("{program}: {error}"),
-        _ => String::from_utf8(output.stdout).expect("the program prints text"),
-    }
-}
 
 /// What the library's report is of an input.
 fn reported(input: &[u8]) -> String {
@@ -191,7 +162,7 @@ fn pieces_of_input_do_not_matter() {
     let input = [&table[..], &records.concat()].concat();
     let input = &input[..input.len().min(4000)];
     let pause = Duration::from_micros(20);
-    for program in [OWN.to_string()].into_iter().chain(env::var("PWS_REPORT")) {
+    for program in programs() {
         for length in [1, 25, 26, 27, 1000] {
             let printed = printed_of_pieces(&program, input, length, pause);
             assert_eq!(printed, reported(input), "{program}, pieces of {length}");
