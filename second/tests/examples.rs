@@ -46,7 +46,15 @@ fn each_example_is_reported_as_kept() {
         }
     }
     names.sort();
-    let stories = ["cancel-first", "earthquake", "example", "merged-queues", "one-yard", "quarry"];
+    let stories = [
+        "cancel-first",
+        "earthquake",
+        "example",
+        "merged-queues",
+        "one-yard",
+        "quarry",
+        "zero-rules",
+    ];
     assert_eq!(names, stories);
 }
 

@@ -12,6 +12,7 @@ pub mod VerdictLaws
 pub mod FitLaws
 pub mod PlaceLaws
 pub mod SoundPlaceLaws
+pub mod ZeroRulesHold
 pub mod StartLaws
 pub mod CancelLaws
 pub mod HeadCodec

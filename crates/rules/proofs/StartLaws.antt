@@ -13,13 +13,15 @@ use Rattle.rules.specs.Layout.{Version, recordFields, placesPerCell, lon
 use Rattle.rules.specs.Table.{running}
 use Rattle.rules.specs.Record.{writeReplace, requestNumbers, concurrent, isPrimary, itemEnd, withinLimits}
 use Rattle.rules.specs.Sound.{soundPlace, soundPlaces, fitRequest}
-use Rattle.rules.specs.InCell.{Told, Done, done, reported, zeroRulesStop, startsNothing, newPlace, start}
+use Rattle.rules.specs.ZeroRules.{zeroRulesStop}
+use Rattle.rules.specs.InCell.{Told, Done, done, reported, startsNothing, newPlace, start}
 use Rattle.rules.specs.declared.Request.{Request}
 use Rattle.rules.specs.declared.Place.{Place}
 use Rattle.rules.specs.declared.Seconds.{Seconds}
 use Rattle.rules.specs.declared.Broadcasts.{Broadcasts}
 use Rattle.rules.proofs.ListsLaws.{both, cond-either, or-else, neither, larger-right}
 use Rattle.rules.proofs.LayoutLaws.{longest-some}
+use Rattle.rules.proofs.ZeroRulesHold.{zero-rules-hold}
 use Rattle.rules.proofs.SoundPlaceLaws.{fits-at, facts-sound, one-sound, snoc-sound}
 
 module _ (v : Version) where
@@ -50,7 +52,7 @@ once-or-primary : (b : Bool) (q : Request) → not b && zeroRulesStop q ≡ fals
     → cond b (record { 0 = 0 }) (q .requested) .0 ≡ 1
 once-or-primary true q n z = omega (arith, z)
 once-or-primary false q n z =
-    let h = neither (eqb (q .requested .0) 0 && not (concurrent q)) _ n .1 in
+    let h = neither (eqb (q .requested .0) 0 && not (concurrent q)) _ (rw (zero-rules-hold q) at n) .1 in
     eqb-true (q .requested .0) 1 (not-false _ (rw (eq-eqb (q .period .0) 0 z) at h))
 
 module _ (v : Version) where

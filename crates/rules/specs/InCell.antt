@@ -1,6 +1,6 @@
 -- Document 01, "What happens in each reached cell": for each kind, the live places afterwards and what is reported. No bytes.
 -- Of earthquake primaries as document 02, 2/13, has it.
-use mathlib.Core.Bool.{Bool, cond, not, _&&_, _||_}
+use mathlib.Core.Bool.{Bool, cond, not, _&&_}
 use mathlib.Core.List.{List, [], _∷_, _++_, flatMap}
 use Prim.Native.Nat.{ℕ, _+_, _-_}
 use lib.Dec.{eqb, ltb}
@@ -9,6 +9,7 @@ use Rattle.rules.specs.Lists.{those}
 use Rattle.rules.specs.Layout.{placesPerCell, mostSent}
 use Rattle.rules.specs.Table.{isText, running}
 use Rattle.rules.specs.Record.{writeReplace, cancelOrKill, restartKind, failureKind, concurrent, cancelAll, isPrimary}
+use Rattle.rules.specs.ZeroRules.{zeroRulesStop}
 use Rattle.rules.specs.declared.Place.{Place}
 use Rattle.rules.specs.declared.Request.{Request}
 
@@ -35,13 +36,7 @@ reportedIfLive (p ∷ ps) = reported 0
 
 -- ---- Write-Replace
 
--- the zero rules: requested is 0 without flag 1, or period is 0 and requested is not 1
-abbrev pub zeroRulesStop : Request → Bool
-zeroRulesStop q =
-    eqb (q .requested .0) 0 && not (concurrent q)
-    || eqb (q .period .0) 0 && not (eqb (q .requested .0) 1)
-
--- a primary skips them
+-- the zero rules stop it; a primary skips them
 unfoldable pub startsNothing : Request → Bool
 startsNothing q = not (isPrimary q) && zeroRulesStop q
 

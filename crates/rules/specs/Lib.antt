@@ -4,6 +4,7 @@ pub mod Identity
 pub mod Table
 pub mod Record
 pub mod Reach
+pub mod ZeroRules
 pub mod InCell
 pub mod Answer
 pub mod Refusals

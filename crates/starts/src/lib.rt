@@ -11,13 +11,31 @@ ghost use Rattle.rules.specs.Layout.{current};
 ghost use Rattle.rules.specs.Table.{placeBytes};
 ghost use Rattle.rules.specs.InCell.{startsNothing, newPlace};
 
-// The zero rules, which a primary skips.
+// The zero rules (docs/ZERO-RULES.md): whether a start is idle.
+const IDLE: [bool; 12] = [
+    // concurrent, requested, period
+    true, // no, 0, 0
+    true, // no, 0, above 0
+    false, // no, 1, 0
+    false, // no, 1, above 0
+    true, // no, above 1, 0
+    false, // no, above 1, above 0
+    true, // yes, 0, 0
+    false, // yes, 0, above 0
+    false, // yes, 1, 0
+    false, // yes, 1, above 0
+    true, // yes, above 1, 0
+    false, // yes, above 1, above 0
+];
+
+// What the table says, of a text that is no primary.
 pub fn starts_nothing(request: Request) -> bool
     ensures { λ r. ⌜ r ≡ startsNothing request ⌝ }
 {
-    (request.sib != PRIMARY_SIB)
-        & (((request.requested.0 == 0) & (request.flags % 2 != 1))
-            | ((request.period.0 == 0) & (request.requested.0 != 1)))
+    let concurrent = (request.flags % 2 == 1) as usize;
+    let requested = (0 < request.requested.0) as usize + (1 < request.requested.0) as usize;
+    let period = (0 < request.period.0) as usize;
+    (request.sib != PRIMARY_SIB) & IDLE[6 * concurrent + 2 * requested + period]
 }
 
 // A primary goes out every second until it is stopped, whatever period and count it came with.
