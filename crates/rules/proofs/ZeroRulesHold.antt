@@ -5,10 +5,10 @@ use mathlib.Core.Bool.{Bool, true, false, cond, not, _&&_, _||_}
 use lib.Dec.{eqb}
 use borrow.Author.Tests.{eqb-true}
 use Rattle.rules.specs.Record.{concurrent}
-use Rattle.rules.specs.ZeroRules.{yes, no, requested0, requested1, requestedMore, period0, periodMore, decided, isIdle, ZeroRulesHold}
+use Rattle.rules.specs.ZeroRules.{yes, no, requested0, requested1, requestedMore, period0, periodMore, decided, stops, ZeroRulesHold}
 
 rows : (flag none once zero : Bool) → (none ≡ true → once ≡ false)
-    → isIdle (decided (cond flag yes no) (cond none requested0 (cond once requested1 requestedMore)) (cond zero period0 periodMore))
+    → stops (decided (cond flag yes no) (cond none requested0 (cond once requested1 requestedMore)) (cond zero period0 periodMore))
     ≡ (none && not flag || zero && not once)
 rows false true once true e = refl
 rows false true once false e = refl

@@ -54,12 +54,12 @@ requestedOf n = cond (eqb n 0) requested0 (cond (eqb n 1) requested1 requestedMo
 abbrev pub periodOf : ℕ → Period
 periodOf n = cond (eqb n 0) period0 periodMore
 
-abbrev pub isIdle : Decision → Bool
-isIdle idle = true
-isIdle starts = false
+abbrev pub stops : Decision → Bool
+stops idle = true
+stops starts = false
 
 abbrev pub zeroRulesStop : Request → Bool
-zeroRulesStop q = isIdle (decided (concurrentOf q) (requestedOf (q .requested .0)) (periodOf (q .period .0)))
+zeroRulesStop q = stops (decided (concurrentOf q) (requestedOf (q .requested .0)) (periodOf (q .period .0)))
 
 -- ---- document 01's words: requested is 0 without flag 1, or period is 0 and requested is not 1
 

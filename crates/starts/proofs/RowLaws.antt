@@ -10,7 +10,7 @@ use lib.Dec.{ltb}
 use lib.ListN.{getD}
 use borrow.Author.Tests.{ltb-true, lt-ltb, ne-eqb}
 use Rattle.rules.specs.Record.{concurrent}
-use Rattle.rules.specs.ZeroRules.{yes, no, requested0, requested1, requestedMore, period0, periodMore, decided, requestedOf, periodOf, isIdle, zeroRulesStop}
+use Rattle.rules.specs.ZeroRules.{yes, no, requested0, requested1, requestedMore, period0, periodMore, decided, requestedOf, periodOf, stops, zeroRulesStop}
 use Rattle.rules.specs.declared.Request.{Request}
 
 -- ---- the number
@@ -53,23 +53,23 @@ also-above-0 n e = lt-ltb 0 n (omega (arith, ltb-true 1 n e))
 
 abbrev entries : List Bool
 entries =
-    isIdle (decided no requested0 period0)
-    ∷ isIdle (decided no requested0 periodMore)
-    ∷ isIdle (decided no requested1 period0)
-    ∷ isIdle (decided no requested1 periodMore)
-    ∷ isIdle (decided no requestedMore period0)
-    ∷ isIdle (decided no requestedMore periodMore)
-    ∷ isIdle (decided yes requested0 period0)
-    ∷ isIdle (decided yes requested0 periodMore)
-    ∷ isIdle (decided yes requested1 period0)
-    ∷ isIdle (decided yes requested1 periodMore)
-    ∷ isIdle (decided yes requestedMore period0)
-    ∷ isIdle (decided yes requestedMore periodMore)
+    stops (decided no requested0 period0)
+    ∷ stops (decided no requested0 periodMore)
+    ∷ stops (decided no requested1 period0)
+    ∷ stops (decided no requested1 periodMore)
+    ∷ stops (decided no requestedMore period0)
+    ∷ stops (decided no requestedMore periodMore)
+    ∷ stops (decided yes requested0 period0)
+    ∷ stops (decided yes requested0 periodMore)
+    ∷ stops (decided yes requested1 period0)
+    ∷ stops (decided yes requested1 periodMore)
+    ∷ stops (decided yes requestedMore period0)
+    ∷ stops (decided yes requestedMore periodMore)
     ∷ []
 
 rows : (flag some more again : Bool) → (more ≡ true → some ≡ true)
     → getD entries (number flag some more again) false
-    ≡ isIdle (decided (cond flag yes no) (cond more requestedMore (cond some requested1 requested0)) (cond again periodMore period0))
+    ≡ stops (decided (cond flag yes no) (cond more requestedMore (cond some requested1 requested0)) (cond again periodMore period0))
 rows false false false false e = refl
 rows false false false true e = refl
 rows false true false false e = refl
