@@ -78,7 +78,7 @@ fn identities<'a>(heads: impl Iterator<Item = &'a Head>) -> Vec<CellIdentity> {
 /// The heads that back to back make these bytes.
 fn parse_heads(bytes: &[u8]) -> Option<Vec<Head>> {
     let count = bytes.len() / Head::LENGTH;
-    if !bytes.len().is_multiple_of(Head::LENGTH) || !Table::CELLS.contains(&count) {
+    if bytes.len() != count * Head::LENGTH || !Table::CELLS.contains(&count) {
         return None;
     }
     let heads = bytes.chunks(Head::LENGTH).map(Head::parse).collect::<Option<Vec<Head>>>()?;
