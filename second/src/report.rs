@@ -5,33 +5,38 @@ use std::io::{self, Read, Write};
 use crate::answer::Answer;
 use crate::apply::answered;
 use crate::cell::Head;
+use crate::fault::Fault;
 use crate::layout::Layout;
 use crate::record::Record;
 use crate::refusal::Refusal;
 use crate::table::{build, Table};
 
 /// Reads N, N heads and records, to the end of the input or to where the program stops.
-pub fn report(mut input: impl Read, mut output: impl Write) -> io::Result<()> {
-    let Some(mut table) = read_table(&mut input)? else {
-        writeln!(output, "no {}", Refusal::Heads.number())?;
-        return output.flush();
-    };
-    while let Some(record) = read_record(&mut input)? {
-        match answered(&Layout::CURRENT, &mut table, &record, usize::MAX) {
-            Ok(answer) => print(&answer, &mut output)?,
-            Err(refusal) => {
-                writeln!(output, "no {}", refusal.number())?;
-                if stops(refusal) {
-                    break;
-                }
-            }
+pub fn report(mut input: impl Read, mut output: impl Write) -> Result<(), Fault> {
+    match read_table(&mut input)? {
+        Some(table) => answer_records(table, &mut input, &mut output)?,
+        None => print(&Err(Refusal::Heads), &mut output)?,
+    }
+    output.flush().map_err(Fault::Unwritten)
+}
+
+fn answer_records(
+    mut table: Vec<u8>,
+    input: &mut impl Read,
+    output: &mut impl Write,
+) -> Result<(), Fault> {
+    while let Some(record) = read_record(input)? {
+        let answered = answered(&Layout::CURRENT, &mut table, &record, usize::MAX);
+        print(&answered, output)?;
+        if answered.is_err_and(stops) {
+            break;
         }
     }
-    output.flush()
+    Ok(())
 }
 
 /// An empty table of the heads in the input. With N not 1 to 512 "no heads are read".
-fn read_table(input: &mut impl Read) -> io::Result<Option<Vec<u8>>> {
+fn read_table(input: &mut impl Read) -> Result<Option<Vec<u8>>, Fault> {
     let Ok(count) = <[u8; 2]>::try_from(read_part(input, 2)?) else {
         return Ok(None);
     };
@@ -47,7 +52,7 @@ fn read_table(input: &mut impl Read) -> io::Result<Option<Vec<u8>>> {
 
 /// The next record, "framed by its own n", or what there is of it; `None` at the end of the input.
 /// The items of a record with n above 512 are not read, since the program stops there.
-fn read_record(input: &mut impl Read) -> io::Result<Option<Vec<u8>>> {
+fn read_record(input: &mut impl Read) -> Result<Option<Vec<u8>>, Fault> {
     let mut record = read_part(input, Record::HEADER)?;
     let longest = Record::HEADER + Record::ITEM * Record::MOST_ITEMS;
     if let Some(length) = Record::framed_length(&record).filter(|length| *length <= longest) {
@@ -57,9 +62,9 @@ fn read_record(input: &mut impl Read) -> io::Result<Option<Vec<u8>>> {
 }
 
 /// That many bytes; fewer only where the input ends.
-fn read_part(input: &mut impl Read, length: usize) -> io::Result<Vec<u8>> {
+fn read_part(input: &mut impl Read, length: usize) -> Result<Vec<u8>, Fault> {
     let mut part = Vec::with_capacity(length);
-    input.take(length as u64).read_to_end(&mut part)?;
+    input.take(length as u64).read_to_end(&mut part).map_err(Fault::Unread)?;
     Ok(part)
 }
 
@@ -68,7 +73,15 @@ fn stops(refusal: Refusal) -> bool {
     matches!(refusal, Refusal::RecordMark | Refusal::RecordLength)
 }
 
-fn print(answer: &Answer, output: &mut impl Write) -> io::Result<()> {
+fn print(answered: &Result<Answer, Refusal>, output: &mut impl Write) -> Result<(), Fault> {
+    match answered {
+        Ok(answer) => print_rows(answer, output),
+        Err(refusal) => writeln!(output, "no {}", refusal.number()),
+    }
+    .map_err(Fault::Unwritten)
+}
+
+fn print_rows(answer: &Answer, output: &mut impl Write) -> io::Result<()> {
     writeln!(output, "ok {} {}", answer.kind, answer.rows.len())?;
     for row in &answer.rows {
         writeln!(output, "{:015x} {} {}", row.identity.number(), row.count.0, row.content)?;

@@ -1,6 +1,7 @@
 //! Document 01's example of the program, whole.
 
 mod programs;
+mod run;
 
 use programs::{printed, programs};
 use second::request::*;

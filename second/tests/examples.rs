@@ -2,6 +2,7 @@
 //! many times in a row, what is kept has it once and says how many times.
 
 mod programs;
+mod run;
 
 use std::fs;
 use std::path::{Path, PathBuf};

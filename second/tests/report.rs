@@ -3,6 +3,7 @@
 
 mod given;
 mod programs;
+mod run;
 
 use std::env;
 use std::time::Duration;

@@ -2,6 +2,7 @@
 //! the own one and, where PWS_REPORT names it, the first implementation's.
 
 mod programs;
+mod run;
 
 use std::fs;
 

@@ -3,7 +3,8 @@
 #![forbid(unsafe_code)]
 
 use std::io::{self, BufWriter};
+use std::process::ExitCode;
 
-fn main() -> io::Result<()> {
-    second::report(io::stdin().lock(), BufWriter::new(io::stdout().lock()))
+fn main() -> ExitCode {
+    second::status(second::report(io::stdin().lock(), BufWriter::new(io::stdout().lock())))
 }
