@@ -8,6 +8,11 @@ use std::process::ExitCode;
 pub enum Fault {
     Unread(io::Error),
     Unwritten(io::Error),
+    /// A line of a script is wrong.
+    Line {
+        line: usize,
+        sentence: String,
+    },
 }
 
 impl Fault {
@@ -22,6 +27,10 @@ impl fmt::Display for Fault {
         match self {
             Fault::Unread(error) => write!(formatter, "The input cannot be read: {error}."),
             Fault::Unwritten(error) => write!(formatter, "The output cannot be written: {error}."),
+            Fault::Line { line, sentence } => {
+                writeln!(formatter, "line {line}: {sentence}")?;
+                write!(formatter, "What was written ends before this line.")
+            }
         }
     }
 }

@@ -1,5 +1,5 @@
-//! The own programs as commands of a shell: where their input cannot be read or their output cannot
-//! be written, they say so and fail.
+//! The own programs, broadcast report and script, as commands of a shell: what they tell where
+//! something is wrong, and what they end with.
 
 mod run;
 
@@ -9,6 +9,8 @@ use std::time::Duration;
 use run::run;
 
 const REPORT: &str = env!("CARGO_BIN_EXE_report");
+const SCRIPT: &str = env!("CARGO_BIN_EXE_script");
+const CELL: &str = "cell 00f110000000010 code 1\n";
 
 /// How a line of shell ends in which `$0` is the program.
 fn shell(line: &str, program: &str, input: &[u8]) -> Output {
@@ -24,13 +26,21 @@ fn told(line: &str, program: &str, input: &[u8]) -> String {
     String::from_utf8(stderr).expect("text is told")
 }
 
+/// What script makes of a text.
+fn input_of(text: &str) -> Vec<u8> {
+    let Output { status, stdout, stderr } = shell("\"$0\"", SCRIPT, text.as_bytes());
+    assert_eq!((status.code(), &stderr[..]), (Some(0), &b""[..]), "{text}");
+    stdout
+}
+
 /// Each program, an input of which it makes an output, and one of which it makes more than a pipe
 /// holds.
-fn programs() -> [(&'static str, Vec<u8>, Vec<u8>); 1] {
-    let refused = b"\0\0".to_vec();
-    let cell = b"\0\x01\0\x0f\x11\0\0\0\0\x10\0\0\x01\0\0\0\0\0\0\0\0\0\0\0\0\0";
-    let second = b"PWR\0\x01\x05\0\0\0\0\0\0\0\0\0\0\0\0\0\0\0\0\0\0\0\0";
-    [(REPORT, refused, [&cell[..], &second.repeat(100_000)].concat())]
+fn programs() -> [(&'static str, Vec<u8>, Vec<u8>); 2] {
+    let long = format!("{CELL}seconds 65535\n");
+    [
+        (REPORT, input_of(&format!("{CELL}second\n")), input_of(&long)),
+        (SCRIPT, CELL.into(), long.into()),
+    ]
 }
 
 #[test]
@@ -60,4 +70,28 @@ fn a_closed_pipe_ends_a_program_quietly() {
         let told = String::from_utf8(shell(line, program, &long).stderr).unwrap();
         assert_eq!(told, "1\n", "{program}");
     }
+}
+
+#[test]
+fn a_wrong_line_is_told_and_what_was_written_ends_before_it() {
+    let right = format!("{CELL}second\n");
+    let Output { status, stdout, stderr } =
+        shell("\"$0\"", SCRIPT, format!("{right}seconds 0\nsecond\n").as_bytes());
+    assert_eq!(status.code(), Some(1));
+    assert_eq!(stdout, input_of(&right));
+    let told = "line 3: The number of seconds must be 1 to 65535, unlike `0`.\n\
+        What was written ends before this line.\n";
+    assert_eq!(String::from_utf8(stderr).unwrap(), told);
+}
+
+/// Ten times as much is written as there is memory, and a line has no end for as long.
+#[test]
+fn no_script_takes_much_memory() {
+    let limited = "ulimit -v 32768; \"$0\" > /dev/null";
+    let text = format!("{CELL}{}", "seconds 65535\n".repeat(200));
+    let Output { status, stderr, .. } = shell(limited, SCRIPT, text.as_bytes());
+    assert_eq!((status.code(), &stderr[..]), (Some(0), &b""[..]));
+    let endless = "ulimit -v 32768; head -c 100000000 /dev/zero | \"$0\"";
+    let told = told(endless, SCRIPT, b"");
+    assert!(told.starts_with("line 1: A line has at most 65536 bytes.\n"), "{told}");
 }

@@ -7,8 +7,10 @@ mod run;
 use std::fs;
 use std::path::{Path, PathBuf};
 use std::process::Command;
+use std::time::Duration;
 
 use programs::{printed, programs};
+use run::run;
 
 fn examples() -> PathBuf {
     Path::new(env!("CARGO_MANIFEST_DIR")).join("../examples")
@@ -16,9 +18,10 @@ fn examples() -> PathBuf {
 
 /// The outcome of `script < path | report`.
 fn reported(path: &Path, program: &str) -> String {
-    let input = fs::File::open(path).unwrap();
-    let script = Command::new(env!("CARGO_BIN_EXE_script")).stdin(input).output().unwrap();
-    assert!(script.status.success(), "{}", path.display());
+    let text = fs::read(path).unwrap();
+    let mut command = Command::new(env!("CARGO_BIN_EXE_script"));
+    let script = run(&mut command, &text, text.len(), Duration::ZERO);
+    assert!(script.status.success(), "{}: {script:?}", path.display());
     printed(program, &script.stdout)
 }
 
@@ -57,18 +60,4 @@ fn each_example_is_reported_as_kept() {
         "zero-rules",
     ];
     assert_eq!(names, stories);
-}
-
-#[test]
-fn a_bad_script_is_told_on_standard_error_alone() {
-    let path = Path::new(env!("CARGO_TARGET_TMPDIR")).join("bad.txt");
-    fs::write(&path, "cell 00f110000000010 code 1\nsecond\nseconds 0\n").unwrap();
-    let script = Command::new(env!("CARGO_BIN_EXE_script"))
-        .stdin(fs::File::open(&path).unwrap())
-        .output()
-        .unwrap();
-    assert!(!script.status.success());
-    assert_eq!(script.stdout, b"");
-    let told = "line 3: The number of seconds must be 1 to 65535, unlike `0`.\n";
-    assert_eq!(String::from_utf8(script.stderr).unwrap(), told);
 }

@@ -5,9 +5,31 @@ use crate::request::*;
 
 const CELL: &str = "cell 00f110000000010 code 1\n";
 
+/// The program's input, as far as it is written, and the fault with its line.
+fn written(text: &[u8]) -> (Vec<u8>, Option<(usize, String)>) {
+    let mut input = Vec::new();
+    let fault = match script(text, &mut input) {
+        Ok(()) => None,
+        Err(Fault::Line { line, sentence }) => Some((line, sentence)),
+        Err(other) => panic!("{other}"),
+    };
+    (input, fault)
+}
+
+/// The whole input that a script describes.
+fn input(text: &[u8]) -> Vec<u8> {
+    let (input, fault) = written(text);
+    assert_eq!(fault, None);
+    input
+}
+
+fn fault(text: &[u8]) -> (usize, String) {
+    written(text).1.expect("a line is wrong")
+}
+
 /// The records behind one cell's head, in the program's input of a script with that cell.
 fn records(requests: &str) -> Vec<u8> {
-    script([CELL, requests].concat().as_bytes()).unwrap()[2 + Head::LENGTH..].to_vec()
+    input([CELL, requests].concat().as_bytes())[2 + Head::LENGTH..].to_vec()
 }
 
 fn request(line: &str) -> Request {
@@ -18,7 +40,7 @@ fn request(line: &str) -> Request {
 
 #[test]
 fn a_cell_is_a_head() {
-    let input = script(b"cell 00f110000000010 code 1 areas 5 9 # the yard\n\n  # end").unwrap();
+    let input = input(b"cell 00f110000000010 code 1 areas 5 9 # the yard\n\n  # end");
     let expected = b"\0\x01\0\x0f\x11\0\0\0\0\x10\0\0\x01\x02\0\0\x05\0\0\x09\0\0\0\0\0\0";
     assert_eq!(input, expected);
 }
@@ -72,16 +94,16 @@ fn items_are_written_by_their_area() {
 
 /// The sentence about a line that follows one cell's.
 fn sentence(line: &str) -> String {
-    let fault = script([CELL, line].concat().as_bytes()).unwrap_err();
-    assert_eq!(fault.line, 2, "{line}");
-    fault.sentence
+    let (number, sentence) = fault([CELL, line].concat().as_bytes());
+    assert_eq!(number, 2, "{line}");
+    sentence
 }
 
 #[test]
 fn a_line_begins_with_a_known_word() {
     let known = "cell, start, cancel, restart, failure, second or seconds";
     assert_eq!(sentence("stop"), format!("A line begins with {known}, not with `stop`."));
-    assert_eq!(script(b"\xff").unwrap_err().sentence, "This is not UTF-8 text.");
+    assert_eq!(fault(b"\xff"), (1, "This is not UTF-8 text.".into()));
 }
 
 #[test]
@@ -164,13 +186,37 @@ fn cells_are_1_to_512_and_come_first() {
     let cells = |count: u32| {
         (0..count).map(|part| format!("cell {part:015x} code 1\n")).collect::<String>()
     };
-    assert!(script(cells(512).as_bytes()).is_ok());
-    let fault = |text: &str| script(text.as_bytes()).unwrap_err().to_string();
-    assert_eq!(fault(&cells(513)), "line 513: A table has at most 512 cells.");
-    assert_eq!(fault("# nothing\n"), "line 2: The script ends without a cell.");
-    assert_eq!(fault("\nsecond\n"), "line 2: A cell must come before the first request.");
-    assert_eq!(
-        fault(&format!("{CELL}second\ncell 00f110000000020 code 1\n")),
-        "line 3: Cells must come before requests."
-    );
+    assert_eq!(input(cells(512).as_bytes()).len(), 2 + 512 * Head::LENGTH);
+    let told = |text: &str, line: usize, sentence: &str| {
+        assert_eq!(written(text.as_bytes()).0, b"", "{text}");
+        assert_eq!(fault(text.as_bytes()), (line, sentence.into()), "{text}");
+    };
+    told(&cells(513), 513, "A table has at most 512 cells.");
+    told("", 1, "The script ends without a cell.");
+    told("# nothing", 1, "The script ends without a cell.");
+    told("# nothing\n", 2, "The script ends without a cell.");
+    told("\nsecond\n", 2, "A cell must come before the first request.");
+    let late = fault([CELL, "second\n", CELL].concat().as_bytes());
+    assert_eq!(late, (3, "Cells must come before requests.".into()));
+}
+
+#[test]
+fn what_is_written_ends_before_the_wrong_line() {
+    let right = [CELL, "second\nseconds 3\n"].concat();
+    for wrong in ["seconds 0", "second 2", "cell 00f110000000020 code 1", "stop"] {
+        let (input_before, fault) = written(format!("{right}{wrong}\nsecond\n").as_bytes());
+        assert_eq!(input_before, input(right.as_bytes()), "{wrong}");
+        assert_eq!(fault.map(|(line, _)| line), Some(4), "{wrong}");
+    }
+}
+
+#[test]
+fn a_line_is_at_most_as_long_as_told() {
+    let second = |length: usize| format!("second{:1$}", "", length - "second".len());
+    assert_eq!(request(&second(LONGEST_LINE)).kind, SECOND);
+    assert_eq!(request(&format!("{}\n", second(LONGEST_LINE - 1))).kind, SECOND);
+    let most = "A line has at most 65536 bytes.";
+    assert_eq!(sentence(&second(LONGEST_LINE + 1)), most);
+    assert_eq!(sentence(&format!("{}\n", second(LONGEST_LINE))), most);
+    assert_eq!(sentence(&format!("#{}", "\u{e9}".repeat(LONGEST_LINE))), most);
 }
