@@ -24,7 +24,7 @@ use std::io::{BufRead, Read, Write};
 use std::mem;
 
 use crate::cell::Head;
-use crate::fault::Fault;
+use crate::fault::{shown, Fault};
 use crate::fields::{strictly_ascending, Written};
 use crate::table::Table;
 use words::Words;
@@ -37,8 +37,8 @@ const LONGEST_LINE: usize = 65_536;
 pub fn script(mut text: impl BufRead, mut input: impl Write) -> Result<(), Fault> {
     let mut script = Script::default();
     for line in 1.. {
-        let told = |sentence| Fault::Line { line, sentence };
         let bytes = read_line(&mut text)?;
+        let told = |sentence| Fault::Line { line, text: shown(bytes.trim_ascii()), sentence };
         let part = script.take(&bytes).map_err(told)?;
         input.write_all(&part).map_err(Fault::Unwritten)?;
         if !bytes.ends_with(b"\n") {

@@ -79,9 +79,24 @@ fn a_wrong_line_is_told_and_what_was_written_ends_before_it() {
         shell("\"$0\"", SCRIPT, format!("{right}seconds 0\nsecond\n").as_bytes());
     assert_eq!(status.code(), Some(1));
     assert_eq!(stdout, input_of(&right));
-    let told = "line 3: The number of seconds must be 1 to 65535, unlike `0`.\n\
+    let told = "line 3: The number of seconds must be 1 to 65535, unlike `0`.\n    \
+        seconds 0\n\
         What was written ends before this line.\n";
     assert_eq!(String::from_utf8(stderr).unwrap(), told);
+}
+
+#[test]
+fn a_terminal_sees_no_control_bytes() {
+    let escapes = b"cancel \x1b[2J\xc2\x9b2J/\x07 all";
+    let sentence = r"The message identifier must be 0 to 65535, unlike `\x1b[2J\xc2\x9b2J`.";
+    let line = r"cancel \x1b[2J\xc2\x9b2J/\x07 all";
+    let end = "What was written ends before this line.";
+    let expected = format!("line 1: {sentence}\n    {line}\n{end}\n");
+    assert_eq!(told("\"$0\"", SCRIPT, escapes), expected);
+    let no_text = r"line 1: This is not UTF-8 text.";
+    let long = [&b"second #"[..], &[0xff; 9999]].concat();
+    let cut = format!("{no_text}\n    second #{}..\n{end}\n", r"\xff".repeat(100 - 8));
+    assert_eq!(told("\"$0\"", SCRIPT, &long), cut);
 }
 
 /// Ten times as much is written as there is memory, and a line has no end for as long.

@@ -1,6 +1,7 @@
 //! A line's request.
 
 use super::words::Words;
+use crate::fault::quoted;
 use crate::layout::Layout;
 use crate::place::{Broadcasts, Seconds, SIB_KINDS};
 use crate::record::Record;
@@ -21,7 +22,7 @@ pub(super) fn request(first: &str, words: &mut Words) -> Result<(Record, usize),
         "seconds" => (bare(SECOND), words.number("number of seconds", 1..=MOST_SECONDS)?),
         _ => {
             let known = "cell, start, cancel, restart, failure, second or seconds";
-            return Err(format!("A line begins with {known}, not with `{first}`."));
+            return Err(format!("A line begins with {known}, not with {}.", quoted(first)));
         }
     };
     Ok((in_area(request, words)?, times))
@@ -62,7 +63,8 @@ fn in_area(request: Request, words: &mut Words) -> Result<Record, String> {
         "tracking" => (IN_TRACKING_AREAS, words.list(Words::tracking_area)?),
         "areas" => (IN_EMERGENCY_AREAS, words.list(emergency_area)?),
         other => {
-            return Err(format!("`in` is followed by cells, tracking or areas, not by `{other}`."))
+            let known = "cells, tracking or areas";
+            return Err(format!("`in` is followed by {known}, not by {}.", quoted(other)));
         }
     };
     if area != IN_CELLS && [RESTART, FAILURE].contains(&request.kind) {

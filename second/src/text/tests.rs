@@ -10,7 +10,7 @@ fn written(text: &[u8]) -> (Vec<u8>, Option<(usize, String)>) {
     let mut input = Vec::new();
     let fault = match script(text, &mut input) {
         Ok(()) => None,
-        Err(Fault::Line { line, sentence }) => Some((line, sentence)),
+        Err(Fault::Line { line, sentence, .. }) => Some((line, sentence)),
         Err(other) => panic!("{other}"),
     };
     (input, fault)

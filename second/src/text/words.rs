@@ -6,6 +6,7 @@ use std::ops::RangeInclusive;
 use std::str::{FromStr, SplitWhitespace};
 
 use crate::cell::{CellIdentity, Head};
+use crate::fault::quoted;
 
 pub(super) struct Words<'a> {
     rest: Peekable<SplitWhitespace<'a>>,
@@ -33,13 +34,15 @@ impl<'a> Words<'a> {
     pub fn expect(&mut self, word: &str) -> Result<(), String> {
         match self.word(&format!("`{word}`"))? {
             next if next == word => Ok(()),
-            next => Err(format!("`{next}` stands where `{word}` is expected.")),
+            next => Err(format!("{} stands where `{word}` is expected.", quoted(next))),
         }
     }
 
     pub fn end(&mut self) -> Result<(), String> {
-        self.next()
-            .map_or(Ok(()), |next| Err(format!("`{next}` and what follows is too much here.")))
+        match self.next() {
+            None => Ok(()),
+            Some(next) => Err(format!("{} and what follows is too much here.", quoted(next))),
+        }
     }
 
     pub fn number<T>(&mut self, name: &str, range: RangeInclusive<T>) -> Result<T, String>
@@ -61,7 +64,7 @@ impl<'a> Words<'a> {
         let word = self.word("an NR CGI")?;
         hexadecimal(word, 15)
             .and_then(CellIdentity::from_number)
-            .ok_or_else(|| format!("An NR CGI has 15 hex digits, unlike `{word}`."))
+            .ok_or_else(|| format!("An NR CGI has 15 hex digits, unlike {}.", quoted(word)))
     }
 
     /// PLMN and code.
@@ -69,7 +72,7 @@ impl<'a> Words<'a> {
         let word = self.word("a tracking area as PLMN/CODE")?;
         let (plmn, code) = pair(word, "tracking area", "PLMN/CODE")?;
         let plmn = hexadecimal(plmn, 6)
-            .ok_or_else(|| format!("A PLMN has 6 hex digits, unlike `{plmn}`."))?;
+            .ok_or_else(|| format!("A PLMN has 6 hex digits, unlike {}.", quoted(plmn)))?;
         Ok((plmn << 24) + u64::from(decimal(code, "code", 0..=Head::LARGEST_CODE)?))
     }
 
@@ -88,7 +91,8 @@ impl<'a> Words<'a> {
 }
 
 fn pair<'a>(word: &'a str, name: &str, form: &str) -> Result<(&'a str, &'a str), String> {
-    word.split_once('/').ok_or_else(|| format!("A {name} is written {form}, unlike `{word}`."))
+    word.split_once('/')
+        .ok_or_else(|| format!("A {name} is written {form}, unlike {}.", quoted(word)))
 }
 
 fn decimal<T>(word: &str, name: &str, range: RangeInclusive<T>) -> Result<T, String>
@@ -98,7 +102,8 @@ where
     let digits = word.bytes().all(|byte| byte.is_ascii_digit());
     let number = word.parse().ok().filter(|number| digits && range.contains(number));
     number.ok_or_else(|| {
-        format!("The {name} must be {} to {}, unlike `{word}`.", range.start(), range.end())
+        let (least, most) = (range.start(), range.end());
+        format!("The {name} must be {least} to {most}, unlike {}.", quoted(word))
     })
 }
 
