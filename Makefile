@@ -8,7 +8,7 @@ run: target/bin/report target/second/debug/script
 	@target/bin/report < target/input > target/output
 	@awk -f examples/beside.awk target/output $(SCRIPT)
 
-target/second/debug/script: $(shell find second/src -name '*.rs') second/Cargo.toml
+target/second/debug/script: $(shell find second/src -type f) second/Cargo.toml
 	cargo build --quiet --offline --manifest-path second/Cargo.toml --target-dir target/second
 	@touch $@
 

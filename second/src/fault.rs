@@ -11,6 +11,8 @@ const MOST_SHOWN: usize = 100;
 pub enum Fault {
     Unread(io::Error),
     Unwritten(io::Error),
+    /// There are arguments other than the one for help.
+    Arguments,
     /// A line of a script is wrong; its text is as a terminal may show it.
     Line {
         line: usize,
@@ -31,6 +33,10 @@ impl fmt::Display for Fault {
         match self {
             Fault::Unread(error) => write!(formatter, "The input cannot be read: {error}."),
             Fault::Unwritten(error) => write!(formatter, "The output cannot be written: {error}."),
+            Fault::Arguments => {
+                let only = "The only argument is --help or -h, alone.";
+                write!(formatter, "{only} A script comes on standard input.")
+            }
             Fault::Line { line, text, sentence } => {
                 writeln!(formatter, "line {line}: {sentence}")?;
                 if !text.is_empty() {

@@ -1,22 +1,10 @@
-//! A readable form of the program's input, one cell or request a line, `#` before a comment:
+//! A readable form of the program's input. Whatever is accepted here, the program accepts.
 //!
 //! ```text
-//! cell 00f110000000010 code 1 areas 5 9
-//! start 4370/16 content 7 every 2 times 3 sib 8 concurrent in tracking 00f110/1 00f110/2
-//! second
-//! seconds 3
-//! cancel 4370/16 in cells 00f110000000010
-//! cancel 4370/16 all in areas 5
-//! cancel all
-//! restart in cells 00f110000000010
-//! failure
+#![doc = include_str!("text/grammar.txt")]
 //! ```
-//!
-//! A text is its message identifier and serial number, a tracking area its PLMN and code. An NR CGI
-//! has 15 hex digits and a PLMN 6; every other number is decimal. Words stand in the order above;
-//! `areas` of a cell, `concurrent`, `all` behind a text and everything from `in` on may be left
-//! out. Cells ascend and come before requests. Whatever is accepted here, the program accepts.
 
+mod grammar;
 mod requests;
 mod words;
 
@@ -27,6 +15,7 @@ use crate::cell::Head;
 use crate::fault::{shown, Fault};
 use crate::fields::{strictly_ascending, Written};
 use crate::table::Table;
+pub use grammar::GRAMMAR;
 use words::Words;
 
 /// With the line's end. 512 tracking areas take an eighth of it.

@@ -7,6 +7,7 @@ use std::process::{Command, Output};
 use std::time::Duration;
 
 use run::run;
+use second::text::GRAMMAR;
 
 const REPORT: &str = env!("CARGO_BIN_EXE_report");
 const SCRIPT: &str = env!("CARGO_BIN_EXE_script");
@@ -83,6 +84,26 @@ fn a_wrong_line_is_told_and_what_was_written_ends_before_it() {
         seconds 0\n\
         What was written ends before this line.\n";
     assert_eq!(String::from_utf8(stderr).unwrap(), told);
+}
+
+#[test]
+fn help_is_the_grammar_and_reads_nothing() {
+    for line in ["\"$0\" --help < /", "\"$0\" -h < /"] {
+        let Output { status, stdout, stderr } = shell(line, SCRIPT, b"");
+        assert_eq!((status.code(), &stderr[..]), (Some(0), &b""[..]), "{line}");
+        assert_eq!(String::from_utf8(stdout).unwrap(), GRAMMAR, "{line}");
+    }
+    let full = "The output cannot be written: No space left on device (os error 28).\n";
+    assert_eq!(told("\"$0\" --help > /dev/full", SCRIPT, b""), full);
+}
+
+#[test]
+fn other_arguments_are_refused_and_nothing_is_read() {
+    let sentence = "The only argument is --help or -h, alone. A script comes on standard input.\n";
+    for arguments in ["story.txt", "-", "--", "''", "--help story.txt", "-h -h", "--helpless"] {
+        let line = format!("\"$0\" {arguments} < /");
+        assert_eq!(told(&line, SCRIPT, b""), sentence, "{arguments}");
+    }
 }
 
 #[test]

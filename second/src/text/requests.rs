@@ -8,7 +8,7 @@ use crate::record::Record;
 use crate::request::*;
 
 /// So that a slip of the pen does not fill a disk, and what one line asks for is small to hold.
-const MOST_SECONDS: usize = 65_535;
+pub(super) const MOST_SECONDS: usize = 65_535;
 
 /// The record of a line with this first word, and how many times it is given.
 pub(super) fn request(first: &str, words: &mut Words) -> Result<(Record, usize), String> {
