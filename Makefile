@@ -1,11 +1,13 @@
-.PHONY: run test host-programs host-test install bench bench-quick bench-plot bench-program
+include host/machine.mk
+
+.PHONY: run test ready host-programs host-test peer-test second-test install bench bench-quick bench-plot bench-program
 
 # One story, the script beside what the program reports of it: make run SCRIPT=examples/one-yard.txt
 SCRIPT ?= examples/example.txt
 
-run: target/bin/report target/second/debug/script
+run: $(REPORT) target/second/debug/script
 	@target/second/debug/script < $(SCRIPT) > target/input || { echo "$(SCRIPT) is not run"; exit 1; }
-	@target/bin/report < target/input > target/output
+	@$(REPORT) < target/input > target/output
 	@awk -f examples/beside.awk target/output $(SCRIPT)
 
 target/second/debug/script: $(shell find second/src -type f) second/Cargo.toml
@@ -19,8 +21,14 @@ target/bin/report: $(PROVED)
 	rt check report
 	@touch $@
 
+target/emulated/report: target/bin/report
+	@mkdir -p $(@D)
+	@printf '#!/bin/sh\nexec %s\n' '$(RUN_REPORT) $(CURDIR)/$<' > $@
+	@chmod +x $@
+
 # The host's programs. The tests are built with sanitizers; libpws.a itself is not instrumented.
 HOST_TESTS = samples wrapper rules edges segments periods conversion
+HOST_SCRIPTS = example compilers readme install ctest
 HOST_FLAGS = -std=c++20 -Wall -Wextra -Wpedantic -Wconversion -Werror -Ihost/include
 HOST_NEEDS = $(wildcard host/include/* host/tests/*.hpp) target/staticlib/libpws.a
 
@@ -28,14 +36,44 @@ host-programs: $(HOST_TESTS:%=target/host/%) target/host/two_yards
 
 $(HOST_TESTS:%=target/host/%): target/host/%: host/tests/%.cpp $(HOST_NEEDS)
 	@mkdir -p $(@D)
-	$(CXX) $(HOST_FLAGS) -g -fsanitize=address,undefined $< target/staticlib/libpws.a -o $@
+	$(CXX) $(HOST_FLAGS) -g -fsanitize=$(SANITIZE) $< target/staticlib/libpws.a -o $@
 
 target/host/two_yards: host/example/two_yards.cpp $(HOST_NEEDS)
 	@mkdir -p $(@D)
 	$(CXX) $(HOST_FLAGS) -O2 $< target/staticlib/libpws.a -o $@
 
 host-test: host-programs
-	@host/tests/all.sh
+	@host/tests/all.sh $(HOST_TESTS:%=target/host/%) $(HOST_SCRIPTS:%=host/tests/%.sh)
+
+# The same tests of the engine by hand, on any processor, with every line of it instrumented: so the wrapper and the tests meet
+# AddressSanitizer where libpws.a is emulated, and the peer meets the guard pages.
+PEER_FLAGS = -g -fsanitize=address,undefined -fno-sanitize-recover=all -DPWS_OTHER_LIBRARY
+PEER_NAMES = $(foreach name,build convert apply read write item segment pack,-Dpws_$(name)=peer_$(name))
+PEER_SOURCES = $(wildcard bench/*.cpp bench/peer/*.hpp) host/include/pws.h
+
+target/host/peer/peer.o: $(PEER_SOURCES)
+	@mkdir -p $(@D)
+	$(NATIVE_CXX) -std=c++20 -O1 -Wall -Wextra -Werror -Ihost/include $(PEER_FLAGS) -c bench/peer.cpp -o $@
+
+$(HOST_TESTS:%=target/host/peer/%): target/host/peer/%: host/tests/%.cpp target/host/peer/peer.o $(wildcard host/include/* host/tests/*.hpp)
+	$(NATIVE_CXX) $(HOST_FLAGS) $(PEER_FLAGS) $(PEER_NAMES) $< target/host/peer/peer.o -o $@
+
+peer-test: $(HOST_TESTS:%=target/host/peer/%)
+	@RUN= host/tests/all.sh $^
+
+# The second implementation, compared with the library and with the program. Where these are emulated, so is what is linked to the
+# library, and nothing else.
+SECOND = CARGO_TARGET_DIR=$(CURDIR)/target/second PWS_REPORT=$(CURDIR)/$(REPORT)
+SECOND_LINKED = CARGO_TARGET_DIR=$(CURDIR)/target/second PWS_LIB_DIR=$(CURDIR)/target/staticlib
+SECOND_TEST = test --offline --quiet --manifest-path second/Cargo.toml
+
+second-test: target/staticlib/libpws.a $(REPORT)
+ifdef CROSS_CARGO
+	$(SECOND) cargo $(SECOND_TEST) -- --nocapture --skip the_c_library_is_skipped
+	$(SECOND_LINKED) $(CROSS_CARGO) $(SECOND_TEST) --test differential -- --nocapture c_library
+else
+	$(SECOND) PWS_LIB_DIR=$(CURDIR)/target/staticlib cargo $(SECOND_TEST) -- --nocapture
+endif
 
 # What is installed names neither DESTDIR nor PREFIX, so it may be staged and moved.
 PREFIX ?= /usr/local
@@ -55,29 +93,39 @@ target/staticlib/libpws.a: $(PROVED)
 	@touch $@
 
 # Times against the C++ engine written by hand and against second/ (docs/SPEED.md). PWS_REPORT=/path adds the report program.
+BENCH = target/bench/$(if $(TRIPLE),$(TRIPLE)/)release
+ifdef RUN
+bench bench-plot:
+	@echo "Times are taken on x86-64 alone: here the library is emulated ($(MACHINE)). make bench-quick compares without times."; exit 1
+else
 bench: bench-program target/bin/report
-	PWS_REPORT=$(CURDIR)/target/bin/report SECOND_REPORT=$(CURDIR)/target/bench/release/report target/bench/release/bench
+	PWS_REPORT=$(CURDIR)/target/bin/report SECOND_REPORT=$(CURDIR)/$(BENCH)/report $(BENCH)/bench
+
+bench-plot: bench-program
+	$(BENCH)/bench --growth target/bench
+	gnuplot bench/growth.gp
+endif
 
 # Only that all three agree; the times are a glance and not judged.
 bench-quick: bench-program
-	target/bench/release/bench --quick
-
-bench-plot: bench-program
-	target/bench/release/bench --growth target/bench
-	gnuplot bench/growth.gp
+	$(RUN) $(BENCH)/bench $(QUICK)
 
 bench-program: target/bench/libpeer.a target/staticlib/libpws.a
-	cargo build --quiet --offline --release --manifest-path second/Cargo.toml --target-dir target/bench
+	$(or $(CROSS_CARGO),cargo) build --quiet --offline --release --manifest-path second/Cargo.toml --target-dir target/bench
 	PWS_LIB_DIR=$(CURDIR)/target/staticlib PEER_LIB_DIR=$(CURDIR)/target/bench \
-	    cargo build --quiet --offline --release --manifest-path bench/Cargo.toml --target-dir target/bench
+	    $(or $(CROSS_CARGO),cargo) build --quiet --offline --release --manifest-path bench/Cargo.toml --target-dir target/bench
 
 # Its own object, so that no call is inlined into the bench program.
-target/bench/libpeer.a: $(wildcard bench/*.cpp bench/peer/*.hpp) host/include/pws.h
+target/bench/libpeer.a: $(PEER_SOURCES)
 	mkdir -p target/bench
 	$(CXX) -std=c++20 -O3 -Wall -Wextra -Werror -fno-exceptions -fno-rtti -Ihost/include -c bench/peer.cpp -o target/bench/peer.o
 	$(CXX) -std=c++20 -O3 -Wall -Wextra -Werror -fno-exceptions -fno-rtti -c bench/floor.cpp -o target/bench/floor.o
 	rm -f $@
 	ar rcs $@ target/bench/peer.o target/bench/floor.o
+
+# What the gate needs, seen to before anything is proved.
+ready:
+	@host/ready.sh $(NEEDS)
 
 # The gate.
 test:

@@ -2,6 +2,7 @@
 //!
 //! bench            everything but the growth
 //! bench --quick    the agreement, and a glance at the times, which are not judged
+//! bench --compare  the agreement alone, for a machine whose times say nothing
 //! bench --growth FOLDER                  points for the plot, into this folder
 //! bench --count WORKLOAD SIZE SURFACE    one call, for callgrind
 
@@ -49,6 +50,7 @@ fn main() -> Result<(), Box<dyn Error>> {
             agree(&workloads)?;
             ratios::measure(&workloads, GLANCE);
         }
+        ["--compare"] => agree(&workloads)?,
         ["--growth", folder] => {
             agree(&workloads)?;
             pin::pin();

@@ -32,6 +32,11 @@
 #ifndef PWS_H
 #define PWS_H
 
+/* Without this a linker would only say that the archive has the wrong format. Who links other functions of these names says so. */
+#if !defined(__x86_64__) && !defined(PWS_OTHER_LIBRARY)
+#error "libpws.a has code for x86-64 alone: build the host for x86-64, or define PWS_OTHER_LIBRARY to link other functions of these names"
+#endif
+
 #include <stddef.h>
 #include <stdint.h>
 

@@ -2,6 +2,10 @@
 #ifndef PWS_CALLS_HPP
 #define PWS_CALLS_HPP
 
+#if __cplusplus < 202002L
+#error "pws.hpp is for C++20 and later: compile with -std=c++20. Hosts in C, or in older C++, include pws.h"
+#endif
+
 #include "pws.h"
 
 #include <cstdint>

@@ -5,5 +5,5 @@ program=$(realpath "${1:-target/host/two_yards}")
 cd "$(dirname "$0")/../.."
 . host/tests/check.sh
 
-check "two yards" diff host/example/two_yards.out <("$program")
+check "two yards" diff host/example/two_yards.out <(${RUN:-} "$program")
 report

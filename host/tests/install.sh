@@ -26,7 +26,7 @@ by_pkg_config() {
     local -x PKG_CONFIG_PATH=$root/prefix/lib/pkgconfig
     local flags
     pkg-config --exact-version="$version" pws && read -ra flags <<<"$(pkg-config --cflags --libs pws)" &&
-        g++ -std=c++20 host/example/two_yards.cpp "${flags[@]}" -o "$root/by_pkg_config"
+        "${CXX:-g++}" -std=c++20 host/example/two_yards.cpp "${flags[@]}" -o "$root/by_pkg_config"
 }
 
 # finds VERSION: whether a host that asks for this version, as find_package takes it, is configured.
@@ -41,13 +41,21 @@ finds_no_other_version() {
     done
 }
 
+# A host for a processor that the library has no code for finds none.
+finds_none_for_arm() {
+    rm -rf "$root/arm"
+    ! env -u CMAKE_TOOLCHAIN_FILE cmake -S host/tests/consumer -B "$root/arm" -DCMAKE_PREFIX_PATH="$root/prefix" -DPWS_VERSION="$version" \
+        -DCMAKE_SYSTEM_NAME=Linux -DCMAKE_SYSTEM_PROCESSOR=aarch64 >"$root/arm.txt" 2>&1 &&
+        grep -q 'code for x86-64 alone' "$root/arm.txt"
+}
+
 by_find_package() { finds "$version;EXACT" && cmake --build "$root/consumer" >/dev/null; }
 
 by_cmake() {
     cmake -S host -B "$root/build" >/dev/null && cmake --install "$root/build" --prefix "$root/by_cmake" >/dev/null
 }
 
-prints_the_same() { diff host/example/two_yards.out <("$1"); }
+prints_the_same() { diff host/example/two_yards.out <(${RUN:-} "$1"); }
 
 check "make install" make --silent --no-print-directory install PREFIX="$root/prefix"
 check "its files" installed
@@ -64,6 +72,7 @@ fi
 if command -v cmake >/dev/null; then
     check "a host that asks for another version" finds_no_other_version
     check "a host that asks for this minor version" finds "${version%.*}"
+    check "a host for Arm" finds_none_for_arm
     check "the example by find_package" by_find_package
     check "it prints the same" prints_the_same "$root/consumer/two_yards"
     check "cmake --install" by_cmake
