@@ -3,6 +3,7 @@
 
 mod run;
 
+use std::env;
 use std::process::{Command, Output};
 use std::time::Duration;
 
@@ -61,6 +62,22 @@ fn an_output_that_cannot_be_written_is_told() {
         }
         let nobody = shell("\"$0\" < / 2> /dev/full", program, b"");
         assert_eq!(nobody.status.code(), Some(1), "{program}");
+    }
+}
+
+/// The first implementation's program has no exit status to end with: it says so on standard error.
+#[test]
+fn the_first_program_tells_what_cannot_be_read_or_written() {
+    let Ok(first) = env::var("PWS_REPORT") else {
+        return println!("the first report program: SKIPPED, for PWS_REPORT is not set");
+    };
+    let input = input_of(&format!("{CELL}second\n"));
+    for (line, sentence) in [
+        ("\"$0\" < /", "report: standard input cannot be read\n"),
+        ("\"$0\" > /dev/full", "report: standard output cannot be written\n"),
+    ] {
+        let told = String::from_utf8(shell(line, &first, &input).stderr).unwrap();
+        assert_eq!(told, sentence, "{first}: {line}");
     }
 }
 

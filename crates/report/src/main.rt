@@ -9,6 +9,7 @@ ghost use Rattle.lines.specs.Framing.{countSize, headsEnd};
 ghost use Rattle.report.specs.Report.{answerRoom, tableSize, mostText};
 ghost use Rattle.report.specs.Running.{Standing};
 use builder::build;
+use libc::STDERR_FILENO;
 use libc::STDIN_FILENO;
 use libc::STDOUT_FILENO;
 use lines::frame::cells;
@@ -42,10 +43,36 @@ pub struct Window {
 
 // ---- reading and writing
 
-fn flush(out: &[u8], at: usize) -> bool
+// A program has no exit status here: a line on standard error says what went wrong outside of it.
+fn cannot_write() {
+    io::write_all(
+        STDERR_FILENO,
+        b"report: standard output cannot be written\n",
+    );
+}
+
+fn cannot_read() {
+    io::write_all(
+        STDERR_FILENO,
+        b"report: standard input cannot be read\n",
+    );
+}
+
+fn put_out(out: &[u8], at: usize) -> bool
     requires { ⌜ at ≤ length (now out) ⌝ }
 {
     io::write_all(STDOUT_FILENO, &out[..at])
+}
+
+// Whether the text went out.
+fn flush(out: &[u8], at: usize) -> bool
+    requires { ⌜ at ≤ length (now out) ⌝ }
+{
+    let written = put_out(out, at);
+    if !written {
+        cannot_write();
+    }
+    written
 }
 
 // Moves what is left to the front and reads once behind it: how much is there now. No more than before: the input has ended.
@@ -58,6 +85,9 @@ fn more(input: &mut [u8], from: usize, to: usize) -> usize
     settle(input, from, to);
     let kept = to - from;
     let got = libc::read(STDIN_FILENO, &mut input[kept..]);
+    if got < 0 {
+        cannot_read();
+    }
     kept + io::count(got, &input[kept..])
 }
 
