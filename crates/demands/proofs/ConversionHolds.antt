@@ -27,7 +27,7 @@ use Rattle.rules.proofs.AppliedLaws.{applied-legal, applied-bytes, applied-coun
 use Rattle.rules.proofs.ConvertedLaws.{converted-cells, converted-legal, length-converted, applied-converted}
 use Rattle.pws.specs.Surface.{filled}
 use Rattle.pws.specs.declared.PwsDone.{PwsDone}
-use Rattle.demands.specs.Demand1.{ConvertPromise}
+use Rattle.pws.specs.Promises.{ConvertPromise}
 use Rattle.demands.specs.Demand3.{Call, outcomeIn, runIn}
 use Rattle.demands.specs.Conversion.{Carried, AllAccepted, SameBroadcasts, secondRecord, IsSecond, Conversion}
 

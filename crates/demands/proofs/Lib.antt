@@ -1,3 +1,4 @@
+pub mod ContractsHold
 pub mod Demand1Holds
 pub mod Demand2Holds
 pub mod Zip

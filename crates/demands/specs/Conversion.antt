@@ -13,7 +13,7 @@ use Rattle.rules.specs.Refusals.{tableVerdict}
 use Rattle.rules.specs.Applied.{converted}
 use Rattle.rules.specs.declared.Verdict.the-variants.{Accepted}
 use Rattle.pws.specs.declared.PwsDone.{PwsDone}
-use Rattle.demands.specs.Demand1.{ConvertPromise}
+use Rattle.pws.specs.Promises.{ConvertPromise}
 use Rattle.demands.specs.Demand3.{Call, outcomeIn, runIn}
 
 -- ---- the converter's answer

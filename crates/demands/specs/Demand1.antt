@@ -1,42 +1,14 @@
 -- Demand 1: of every entry point, any bytes at all have one outcome, and a number other than 0 comes with length 0 and every buffer as it was.
--- Said of all that meets the promises of the C surface (crate pws), each written here in the words of its contract.
+-- Said of all that meets the promises of the C surface (crate pws, specs/Promises), which are what a caller learns of each function (Contracts).
 use mathlib.Core.Path.{_≡_}
 use mathlib.Core.List.{List}
 use Prim.Native.Nat.{ℕ}
-use Rattle.rules.specs.Layout.{current}
-use Rattle.rules.specs.Applied.{built, conversion, written, readOf, itemAt, applied, noRequest}
+use Rattle.rules.specs.Applied.{noRequest}
 use Rattle.rules.specs.declared.Request.{Request}
-use Rattle.segments.specs.Segments.{liesAt, packed}
-use Rattle.pws.specs.Surface.{filled, left, lies, readTo}
+use Rattle.pws.specs.Promises.{BuildPromise, ConvertPromise, ApplyPromise, ReadPromise, WritePromise, ItemPromise, SegmentPromise, PackPromise}
 use Rattle.pws.specs.declared.PwsDone.{PwsDone}
 use Rattle.pws.specs.declared.PwsReading.{PwsReading}
 use Rattle.pws.specs.declared.PwsPart.{PwsPart}
-
--- ---- the eight promises: the arguments, then what is returned and what stands in the lent buffers afterwards
-
-abbrev pub BuildPromise : (heads table : List ℕ) → PwsDone → List ℕ → Type 0
-BuildPromise heads table d table′ = filled d table′ ≡ built heads table
-
-abbrev pub ConvertPromise : (old table : List ℕ) → PwsDone → List ℕ → Type 0
-ConvertPromise old table d table′ = filled d table′ ≡ conversion old table
-
-abbrev pub ApplyPromise : (table req answer : List ℕ) → PwsDone → List ℕ → List ℕ → Type 0
-ApplyPromise table req answer d table′ answer′ = left d table′ answer′ ≡ applied current table req answer
-
-abbrev pub ReadPromise : (req : List ℕ) → PwsReading → Type 0
-ReadPromise req d = readTo d ≡ readOf req
-
-abbrev pub WritePromise : (request : Request) (items buffer : List ℕ) → PwsDone → List ℕ → Type 0
-WritePromise request items buffer d buffer′ = filled d buffer′ ≡ written request items buffer
-
-abbrev pub ItemPromise : (req : List ℕ) (k : ℕ) → ℕ → Type 0
-ItemPromise req k n = n ≡ itemAt req k
-
-abbrev pub SegmentPromise : (first more : List ℕ) (k : ℕ) → PwsPart → Type 0
-SegmentPromise first more k p = lies p ≡ liesAt first more k
-
-abbrev pub PackPromise : (bytes lengths list : List ℕ) → PwsDone → List ℕ → Type 0
-PackPromise bytes lengths list d list′ = filled d list′ ≡ packed bytes lengths list
 
 -- ---- THE CLAIM: a refusal changes nothing
 

@@ -21,7 +21,7 @@ use Rattle.rules.specs.declared.Request.{Request}
 use Rattle.rules.specs.declared.Verdict.the-variants.{Accepted}
 use Rattle.pws.specs.Surface.{left}
 use Rattle.pws.specs.declared.PwsDone.{PwsDone}
-use Rattle.demands.specs.Demand1.{ApplyPromise}
+use Rattle.pws.specs.Promises.{ApplyPromise}
 
 -- ---- cells and rows
 

@@ -1,9 +1,8 @@
 // The C surface: numbers and byte slices in, numbers out. Each function hands its buffers to the crate that does the work.
 ghost use mathlib.Core.Path.{_≡_};
-ghost use Rattle.rules.specs.Layout.{current};
-ghost use Rattle.rules.specs.Applied.{built, conversion, written, readOf, itemAt, applied, noRequest};
-ghost use Rattle.segments.specs.Segments.{liesAt, packed};
-ghost use Rattle.pws.specs.Surface.{doneBy, filled, readTo, lies, left};
+ghost use Rattle.rules.specs.Applied.{noRequest};
+ghost use Rattle.pws.specs.Surface.{doneBy};
+ghost use Rattle.pws.specs.Promises.{BuildPromise, ConvertPromise, ApplyPromise, ReadPromise, WritePromise, ItemPromise, SegmentPromise, PackPromise};
 use rules::Answer;
 use rules::Broadcasts;
 use rules::Reading;
@@ -47,28 +46,28 @@ fn done(answer: Answer) -> PwsDone
 
 #[no_mangle]
 pub extern "C" fn pws_build(heads: &[u8], table: &mut [u8]) -> PwsDone
-    ensures { λ r. ⌜ filled r (now (table .exit)) ≡ built (now (heads .entry)) (now (table .entry)) ⌝ }
+    ensures { λ r. ⌜ BuildPromise (now (heads .entry)) (now (table .entry)) r (now (table .exit)) ⌝ }
 {
     done(builder::build(heads, table))
 }
 
 #[no_mangle]
 pub extern "C" fn pws_convert(old: &[u8], table: &mut [u8]) -> PwsDone
-    ensures { λ r. ⌜ filled r (now (table .exit)) ≡ conversion (now (old .entry)) (now (table .entry)) ⌝ }
+    ensures { λ r. ⌜ ConvertPromise (now (old .entry)) (now (table .entry)) r (now (table .exit)) ⌝ }
 {
     done(convert::convert(old, table))
 }
 
 #[no_mangle]
 pub extern "C" fn pws_apply(table: &mut [u8], req: &[u8], answer: &mut [u8]) -> PwsDone
-    ensures { λ r. ⌜ left r (now (table .exit)) (now (answer .exit)) ≡ applied current (now (table .entry)) (now (req .entry)) (now (answer .entry)) ⌝ }
+    ensures { λ r. ⌜ ApplyPromise (now (table .entry)) (now (req .entry)) (now (answer .entry)) r (now (table .exit)) (now (answer .exit)) ⌝ }
 {
     done(engine::apply::apply(table, req, answer))
 }
 
 #[no_mangle]
 pub extern "C" fn pws_read(req: &[u8]) -> PwsReading
-    ensures { λ r. ⌜ readTo r ≡ readOf (now (req .entry)) ⌝ }
+    ensures { λ r. ⌜ ReadPromise (now (req .entry)) r ⌝ }
 {
     match record::read::read(req) {
         Reading::Fields(request, items) => PwsReading {
@@ -86,21 +85,21 @@ pub extern "C" fn pws_read(req: &[u8]) -> PwsReading
 
 #[no_mangle]
 pub extern "C" fn pws_write(request: Request, items: &[u64], buffer: &mut [u8]) -> PwsDone
-    ensures { λ r. ⌜ filled r (now (buffer .exit)) ≡ written request (now (items .entry)) (now (buffer .entry)) ⌝ }
+    ensures { λ r. ⌜ WritePromise request (now (items .entry)) (now (buffer .entry)) r (now (buffer .exit)) ⌝ }
 {
     done(writer::write(request, items, buffer))
 }
 
 #[no_mangle]
 pub extern "C" fn pws_item(req: &[u8], k: usize) -> u64
-    ensures { λ r. ⌜ r ≡ itemAt (now (req .entry)) k ⌝ }
+    ensures { λ r. ⌜ ItemPromise (now (req .entry)) k r ⌝ }
 {
     record::read::item(req, k)
 }
 
 #[no_mangle]
 pub extern "C" fn pws_segment(first: &[u8], more: &[u8], k: usize) -> PwsPart
-    ensures { λ r. ⌜ lies r ≡ liesAt (now (first .entry)) (now (more .entry)) k ⌝ }
+    ensures { λ r. ⌜ SegmentPromise (now (first .entry)) (now (more .entry)) k r ⌝ }
 {
     match segments::read::locate(first, more, k) {
         Part::First(length) => PwsPart {
@@ -126,7 +125,7 @@ pub extern "C" fn pws_segment(first: &[u8], more: &[u8], k: usize) -> PwsPart
 
 #[no_mangle]
 pub extern "C" fn pws_pack(bytes: &[u8], lengths: &[u64], list: &mut [u8]) -> PwsDone
-    ensures { λ r. ⌜ filled r (now (list .exit)) ≡ packed (now (bytes .entry)) (now (lengths .entry)) (now (list .entry)) ⌝ }
+    ensures { λ r. ⌜ PackPromise (now (bytes .entry)) (now (lengths .entry)) (now (list .entry)) r (now (list .exit)) ⌝ }
 {
     done(segments::pack::pack(bytes, lengths, list))
 }

@@ -1,6 +1,6 @@
 -- `pws_apply` leaves what `applied` gives.
 -- By what `apply` ensures, its answer said as number and length.
-use mathlib.Core.Path.{_≡_, _∙_, ap}
+use mathlib.Core.Path.{_∙_, ap}
 use Rattle.pws.specs.Surface.{left}
 use borrow.Author.Needs.{needs}
 use Rattle.pws.proofs.pws_apply.Statement.{statement}

@@ -1,6 +1,6 @@
 -- `pws_read` gives what `readOf` gives.
 -- By the cases of the reading.
-use mathlib.Core.Path.{_≡_, sym, _∙_, ap}
+use mathlib.Core.Path.{sym, _∙_, ap}
 use Rattle.rules.specs.Applied.{readBy}
 use borrow.Author.Needs.{needs}
 use Rattle.pws.proofs.pws_read.Statement.{statement}
