@@ -1,13 +1,25 @@
 -- Demand 1 holds, and each promise admits one outcome only.
--- What is returned and left is what the definition says, and the definition's refusals leave everything as it was.
+-- What is returned and left is what the definition says: its number is the verdict's (NumberLaws), and its refusals leave everything as it was.
 use mathlib.Core.Path.{_≡_, refl, ap, _∙_}
+use mathlib.Core.List.{List}
+use Prim.Native.Nat.{ℕ}
+use native.Mathlib.Omega.{arith}
+use lib.Dec.{leb}
+use lib.ListN.{length}
 use Rattle.octets.proofs.Once.{one-outcome}
-use Rattle.rules.specs.Layout.{current}
-use Rattle.rules.specs.Applied.{Filled, ReadOutcome, Outcome, itemAt}
+use Rattle.rules.specs.Layout.{version1, current, mostItems}
+use Rattle.rules.specs.Record.{requestOf, itemsOf}
+use Rattle.rules.specs.Refusals.{verdictNumber, legalHeads, buildVerdict, convertVerdict, applyVerdict, writeVerdict}
+use Rattle.rules.specs.Applied.{Filled, ReadOutcome, Outcome, built, conversion, written, readOf, itemAt, applied}
+use Rattle.rules.specs.declared.Refusal.the-variants.{RecordLength, BadHeads, ListDamaged, TooManySegments}
 use Rattle.rules.proofs.OutcomeLaws.{built-refused, conversion-refused, written-refused, read-refused, applied-refused}
-use Rattle.segments.specs.Segments.{Lies}
+use Rattle.segments.specs.Segments.{Lies, mostSegments, lengthsFit, liesAt, packVerdict, packed}
 use Rattle.segments.proofs.Refused.{lies-refused, packed-refused}
-use Rattle.demands.specs.Demand1.{Demand1, OneOutcome}
+use Rattle.pws.specs.Surface.{filled}
+use Rattle.pws.specs.declared.PwsDone.{PwsDone}
+use Rattle.demands.specs.Demand1.{Stage, Filling, Demand1, OneOutcome}
+use Rattle.demands.proofs.ContractsHold.{contracts-hold}
+use Rattle.demands.proofs.NumberLaws.{fill-number, reading-number, outcome-number, lying-number, within-table, within-asked, within-record, within-room, within-segment, within-last, chain, EachWithin, numbered}
 
 -- ---- field by field
 
@@ -53,33 +65,45 @@ start-lies e = ap (λ (p : Lies). p .start) e
 length-lies : {x y : Lies} → x ≡ y → x .length ≡ y .length
 length-lies e = ap (λ (p : Lies). p .length) e
 
--- ---- a refusal changes nothing
+-- ---- each entry point
+
+-- what fills a buffer as its stages say, and leaves it as it was where one refuses
+filling : (stages : List Stage) → EachWithin stages → (f : Filled) (buffer : List ℕ) → f .number ≡ verdictNumber (chain stages)
+    → ((f .number ≡ 0 → ⊥) → (f .length ≡ 0) × (f .buffer ≡ buffer))
+    → (d : PwsDone) (buffer′ : List ℕ) → filled d buffer′ ≡ f → Filling d buffer buffer′ (chain stages) stages
+filling stages w f buffer n stays d buffer′ p =
+    record {
+      numbered = numbered stages w (d .number) (number-filled p ∙ n);
+      refused = λ h. let x = stays (λ z. h (number-filled p ∙ z)) in (length-filled p ∙ x .0, buffer-filled p ∙ x .1);
+    }
 
 pub demand-1 : Demand1
+unfolding built buildVerdict conversion convertVerdict applied applyVerdict readOf written writeVerdict liesAt packed packVerdict
 demand-1 =
     record {
-      build-refuses = λ heads table d table′ p h.
-          let x = built-refused heads table (λ z. h (number-filled p ∙ z)) in
-          (length-filled p ∙ x .0, buffer-filled p ∙ x .1);
-      convert-refuses = λ old table d table′ p h.
-          let x = conversion-refused old table (λ z. h (number-filled p ∙ z)) in
-          (length-filled p ∙ x .0, buffer-filled p ∙ x .1);
-      apply-refuses = λ table req answer d table′ answer′ p h.
+      contracts = contracts-hold;
+      of-build = λ heads table d table′ p.
+          filling _ (within-last (legalHeads heads) BadHeads (omega arith, omega arith), (within-room _ (length table), tt)) _ table (fill-number _ _ table) (built-refused heads table) d table′ p;
+      of-convert = λ old table d table′ p.
+          filling _ (within-table version1 old, (within-room _ (length table), tt)) _ table (fill-number _ _ table) (conversion-refused old table) d table′ p;
+      apply-numbered = λ table req answer d table′ answer′ p.
+          numbered _ (within-table current table, (within-record req, (within-room _ (length answer), tt))) (d .number) (number-left p ∙ outcome-number current _ (requestOf req) (itemsOf req) table answer);
+      apply-refused = λ table req answer d table′ answer′ p h.
           let x = applied-refused current table req answer (λ z. h (number-left p ∙ z)) in
           (length-left p ∙ x .0, table-left p ∙ x .1, answer-left p ∙ x .2);
-      write-refuses = λ request items buffer d buffer′ p h.
-          let x = written-refused request items buffer (λ z. h (number-filled p ∙ z)) in
-          (length-filled p ∙ x .0, buffer-filled p ∙ x .1);
-      read-refuses = λ req d p h.
+      of-write = λ request items buffer d buffer′ p.
+          filling _ (within-last (leb (length items) mostItems) RecordLength (omega arith, omega arith), (within-asked request items, (within-room _ (length buffer), tt))) _ buffer (fill-number _ _ buffer) (written-refused request items buffer) d buffer′ p;
+      of-pack = λ bytes lengths list d list′ p.
+          filling _ (within-last (lengthsFit lengths (length bytes)) ListDamaged (omega arith, omega arith), (within-last (leb (length lengths) mostSegments) TooManySegments (omega arith, omega arith), (within-room _ (length list), tt))) _ list (fill-number _ _ list) (packed-refused bytes lengths list) d list′ p;
+      read-numbered = λ req d p. numbered _ (within-record req, tt) (d .number) (number-read p ∙ reading-number _ req);
+      read-refused = λ req d p h.
           let x = read-refused req (λ z. h (number-read p ∙ z)) in
           (request-read p ∙ x .0, items-read p ∙ x .1);
-      item-answers = λ req k. (itemAt req k, refl);
-      segment-refuses = λ first more k p e h.
+      segment-numbered = λ first more k d p. numbered _ (within-segment more k, tt) (d .number) (number-lies p ∙ lying-number _ first more k);
+      segment-refused = λ first more k p e h.
           let x = lies-refused first more k (λ z. h (number-lies e ∙ z)) in
           (buffer-lies e ∙ x .0, start-lies e ∙ x .1, length-lies e ∙ x .2);
-      pack-refuses = λ bytes lengths list d list′ p h.
-          let x = packed-refused bytes lengths list (λ z. h (number-filled p ∙ z)) in
-          (length-filled p ∙ x .0, buffer-filled p ∙ x .1);
+      item-answers = λ req k. (itemAt req k, refl);
     }
 
 -- ---- one outcome only

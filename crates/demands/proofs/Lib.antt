@@ -1,4 +1,5 @@
 pub mod ContractsHold
+pub mod NumberLaws
 pub mod Demand1Holds
 pub mod Demand2Holds
 pub mod Zip

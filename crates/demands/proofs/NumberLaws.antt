@@ -1,0 +1,128 @@
+-- The number of a call is that of its verdict, and the first stage that refuses decides it.
+-- A verdict is a chain of stages; each is taken off its front, by its two cases.
+use mathlib.Core.Path.{_≡_, refl, sym, ap, subst}
+use mathlib.Core.Bool.{Bool, true, false, not, _&&_}
+use mathlib.Core.List.{List, [], _∷_}
+use Prim.Native.Nat.{ℕ, zero, suc, _+_, _*_, _≤_}
+use native.Mathlib.Omega.{arith}
+use lib.Dec.{eqb, leb}
+use lib.ListN.{length}
+use Rattle.rules.specs.Layout.{Version, versionNumber, current, longestPeriod, recordSize, itemSize, mostItems}
+use Rattle.rules.specs.Table.{tableMarked, legalTable}
+use Rattle.rules.specs.Record.{longestAsked, requestOf, zeroByte, itemCount, itemsOf, recordMarked, kindAllows, areaFits, withinLimits, cancelsNothing}
+use Rattle.rules.specs.Refusals.{numberOf, verdictNumber, refuseUnless, _then_, tableVerdict, requestVerdict, recordVerdict}
+use Rattle.rules.specs.Applied.{fill, reading, outcome}
+use Rattle.rules.specs.declared.Request.{Request}
+use Rattle.rules.specs.declared.Refusal.{Refusal}
+use Rattle.rules.specs.declared.Refusal.the-variants.{TableMark, TableWrong, RecordMark, RecordLength, RecordFields, RecordLimits, CancelsNothing, ShortBuffer, ListDamaged, TooManySegments, NoSuchSegment}
+use Rattle.rules.specs.declared.Verdict.{Verdict}
+use Rattle.rules.specs.declared.Verdict.the-variants.{Accepted, Refused}
+use Rattle.rules.proofs.OutcomeLaws.{number-positive}
+use Rattle.segments.specs.Segments.{mostSegments, segmentsOf, wholeList, segmentVerdict, lying}
+use Rattle.demands.specs.Demand1.{Stage, Given, Numbered}
+
+-- ---- what is left behind has the verdict's number
+
+pub fill-number : (v : Verdict) (bs buffer : List ℕ) → fill v bs buffer .number ≡ verdictNumber v
+unfolding fill
+fill-number Accepted bs buffer = refl
+fill-number (Refused x) bs buffer = refl
+
+pub reading-number : (v : Verdict) (r : List ℕ) → reading v r .number ≡ verdictNumber v
+unfolding reading
+reading-number Accepted r = refl
+reading-number (Refused x) r = refl
+
+pub outcome-number : (w : Version) (v : Verdict) (q : Request) (items t a : List ℕ) → outcome w v q items t a .number ≡ verdictNumber v
+unfolding outcome
+outcome-number w Accepted q items t a = refl
+outcome-number w (Refused x) q items t a = refl
+
+pub lying-number : (v : Verdict) (first more : List ℕ) (k : ℕ) → lying v first more k .number ≡ verdictNumber v
+unfolding lying
+lying-number (Refused x) first more k = refl
+lying-number Accepted first more zero = refl
+lying-number Accepted first more (suc j) = refl
+
+-- ---- the numbers of a verdict
+
+abbrev pub Within : (lowest highest : ℕ) → Verdict → Type 0
+Within lowest highest Accepted = Unit
+Within lowest highest (Refused x) = (lowest ≤ numberOf x) × (numberOf x ≤ highest)
+
+-- one test more in front
+within-next : {lowest highest : ℕ} (b : Bool) (x : Refusal) (w : Verdict) → (lowest ≤ numberOf x) × (numberOf x ≤ highest) → Within lowest highest w → Within lowest highest (refuseUnless b x then w)
+within-next true x w p q = q
+within-next false x w p q = p
+
+pub within-last : {lowest highest : ℕ} (b : Bool) (x : Refusal) → (lowest ≤ numberOf x) × (numberOf x ≤ highest) → Within lowest highest (refuseUnless b x)
+within-last true x p = tt
+within-last false x p = p
+
+pub within-table : (v : Version) (t : List ℕ) → Within 1 2 (tableVerdict v t)
+unfolding tableVerdict
+within-table v t =
+    within-next (tableMarked (versionNumber v) t) TableMark _ (omega arith, omega arith)
+    (within-last (legalTable v t) TableWrong (omega arith, omega arith))
+
+-- from 5 on, or from wherever tests before begin
+within-request : (lowest : ℕ) → lowest ≤ 5 → (longest : ℕ) (q : Request) (items : List ℕ) → Within lowest 7 (requestVerdict longest q items)
+unfolding requestVerdict
+within-request lowest low longest q items =
+    within-next (kindAllows q && areaFits q (length items)) RecordFields _ (omega arith, omega arith)
+    (within-next (withinLimits longest q items) RecordLimits _ (omega arith, omega arith)
+    (within-last (not (cancelsNothing q)) CancelsNothing (omega arith, omega arith)))
+
+pub within-room : (need room : ℕ) → Within 8 8 (refuseUnless (leb need room) ShortBuffer)
+within-room need room = within-last (leb need room) ShortBuffer (omega arith, omega arith)
+
+pub within-asked : (q : Request) (items : List ℕ) → Within 5 7 (requestVerdict (longestPeriod current) q items)
+within-asked q items = within-request 5 (omega arith) (longestPeriod current) q items
+
+pub within-record : (r : List ℕ) → Within 3 7 (recordVerdict current r)
+unfolding recordVerdict
+within-record r =
+    within-next (recordMarked current r) RecordMark _ (omega arith, omega arith)
+    (within-next (leb (itemCount r) mostItems && eqb (length r) (recordSize + itemSize * itemCount r)) RecordLength _ (omega arith, omega arith)
+    (within-next (eqb (zeroByte r) 0) RecordFields _ (omega arith, omega arith)
+    (within-request 3 (omega arith) (longestAsked r) (requestOf r) (itemsOf r))))
+
+pub within-segment : (more : List ℕ) (k : ℕ) → Within 10 12 (segmentVerdict more k)
+unfolding segmentVerdict
+within-segment more k =
+    within-next (wholeList more) ListDamaged _ (omega arith, omega arith)
+    (within-next (leb (length (segmentsOf more)) mostSegments) TooManySegments _ (omega arith, omega arith)
+    (within-last (leb k (length (segmentsOf more))) NoSuchSegment (omega arith, omega arith)))
+
+-- ---- stages, one behind the other
+
+abbrev pub chain : List Stage → Verdict
+chain [] = Accepted
+chain (s ∷ []) = s .verdict
+chain (s ∷ next ∷ later) = s .verdict then chain (next ∷ later)
+
+abbrev pub EachWithin : List Stage → Type 0
+EachWithin [] = Unit
+EachWithin (s ∷ later) = Within (s .lowest) (s .highest) (s .verdict) × EachWithin later
+
+-- no refusal is acceptance
+apart : (x : Refusal) → Accepted ≡ Refused x → ⊥
+apart x e = let z : 0 ≡ numberOf x = ap verdictNumber e in omega (arith, number-positive x)
+
+module _ (lowest highest : ℕ) where
+  stage-last : (v : Verdict) → Within lowest highest v → Given (verdictNumber v) (record { lowest = lowest; highest = highest; verdict = v } ∷ [])
+  stage-last Accepted p = (λ x e. absurd (apart x e), λ e. refl)
+  stage-last (Refused y) p = (λ x e. (ap verdictNumber e, p .0, p .1), ap verdictNumber)
+
+  stage-next : (v w : Verdict) → Within lowest highest v → (later : List Stage) → Given (verdictNumber w) later
+      → Given (verdictNumber (v then w)) (record { lowest = lowest; highest = highest; verdict = v } ∷ later)
+  stage-next Accepted w p later g = (λ x e. absurd (apart x e), λ e. g)
+  stage-next (Refused y) w p later g = (λ x e. (ap verdictNumber e, p .0, p .1), λ e. absurd (apart y (sym e)))
+
+by-stages : (stages : List Stage) → EachWithin stages → Given (verdictNumber (chain stages)) stages
+by-stages [] w = refl
+by-stages (s ∷ []) w = stage-last (s .lowest) (s .highest) (s .verdict) (w .0)
+by-stages (s ∷ next ∷ later) w = stage-next (s .lowest) (s .highest) (s .verdict) (chain (next ∷ later)) (w .0) (next ∷ later) (by-stages (next ∷ later) (w .1))
+
+pub numbered : (stages : List Stage) → EachWithin stages → (n : ℕ) → n ≡ verdictNumber (chain stages) → Numbered n (chain stages) stages
+numbered stages w n e = record { its-verdict = e; by-stages = subst (λ k. Given k stages) (sym e) (by-stages stages w) }
