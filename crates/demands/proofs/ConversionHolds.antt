@@ -17,7 +17,7 @@ use Rattle.rules.specs.Table.{cellCount}
 use Rattle.rules.specs.Record.{oneSecond, requestOf, itemsOf, recordMarked, row, kindAllows, areaFits, withinLimits, cancelsNothing}
 use Rattle.rules.specs.Answer.{roomFor}
 use Rattle.rules.specs.Refusals.{tableVerdict, requestVerdict, recordVerdict, applyVerdict, convertVerdict}
-use Rattle.rules.specs.Applied.{Filled, Outcome, fill, converted, conversion, outcome, applied}
+use Rattle.rules.specs.Applied.{Filled, Outcome, fill, converted, conversion}
 use Rattle.rules.specs.declared.Refusal.the-variants.{ShortBuffer}
 use Rattle.rules.specs.declared.Verdict.{Verdict}
 use Rattle.rules.specs.declared.Verdict.the-variants.{Accepted, Refused}
@@ -30,6 +30,7 @@ use Rattle.pws.specs.declared.PwsDone.{PwsDone}
 use Rattle.pws.specs.Promises.{ConvertPromise}
 use Rattle.demands.specs.Demand3.{Call, outcomeIn, runIn}
 use Rattle.demands.specs.Conversion.{Carried, AllAccepted, SameBroadcasts, secondRecord, IsSecond, Conversion}
+use Rattle.demands.proofs.NumberLaws.{accepted-number}
 
 -- ---- call by call
 
@@ -46,10 +47,6 @@ broadcasts t bytes legal (c ∷ cs) h =
     }
 
 -- ---- seconds
-
-accepted-number : (t : List ℕ) (c : Call) → applyVerdict version1 t (c .req) (length (c .answer)) ≡ Accepted → outcomeIn version1 t c .number ≡ 0
-unfolding applied outcome
-accepted-number t c e = rw e
 
 -- computed
 record-of-second : (recordVerdict version1 secondRecord ≡ Accepted) × (requestOf secondRecord .kind ≡ oneSecond)
@@ -68,7 +65,7 @@ all-seconds : (n : ℕ) (t : List ℕ) → Bytes t → tableVerdict version1 t �
 all-seconds zero t bytes legal c s room = tt
 all-seconds (suc n) t bytes legal c s room =
     let e = second-accepted t legal c s room in (
-      accepted-number t c e,
+      accepted-number version1 t (c .req) (c .answer) e,
       all-seconds n (outcomeIn version1 t c .table) (applied-bytes version1 t (c .req) (c .answer) bytes (c .are-bytes) e) (applied-legal version1 t (c .req) (c .answer) bytes (c .are-bytes) e) c s (rw (applied-count version1 t (c .req) (c .answer) bytes (c .are-bytes) e) room),
     )
 

@@ -25,7 +25,9 @@ use Rattle.rules.proofs.AppliedRuns.{table-of-runs, idle-cells, idle-answer}
 use Rattle.rules.proofs.RenewedLaws.{request-renewed, count-renewed, items-renewed, renewed-same}
 use Rattle.rules.proofs.RecordTrips.{record-accepted}
 use Rattle.rules.proofs.RoundTrips.{write-read, read-write, renewed-accepted}
-use Rattle.demands.specs.Demand2.{cellAt, reached, ruled, rowsOf, TableChanged, Answered, Idle, ReadWrite, AcceptedCall, Demand2}
+use Rattle.demands.specs.Demand2.{cellAt, reached, ruled, rowsOf, TableChanged, Answered, Idle, ReadWrite, AcceptedCall, CallUnit, Served, MeetsDemand2, Demand2}
+use Rattle.demands.proofs.Demand2Once.{served-once}
+use Rattle.demands.proofs.NumberLaws.{accepted-number}
 
 module _ (t r a : List ℕ) (bt : Bytes t) (br : Bytes r) (e : applyVerdict current t r (length a) ≡ Accepted) where
   legal : tableVerdict current t ≡ Accepted
@@ -126,12 +128,24 @@ module _ (t r a : List ℕ) (bt : Bytes t) (br : Bytes r) (e : applyVerdict curr
 
 -- ---- all of it
 
-accepted-call : (t r a : List ℕ) → Bytes t → Bytes r → applied current t r a .number ≡ 0 → AcceptedCall t r a (applied current t r a)
-accepted-call t r a bt br e = holds t r a bt br (applied-accepted current t r a e)
+served : MeetsDemand2 (applied current)
+served t r a bt br =
+    record {
+      accepts = accepted-number current t r a;
+      accepted = λ e. holds t r a bt br (applied-accepted current t r a e);
+    }
 
 -- whatever equals `applied`
-of-promised : (t r a : List ℕ) → Bytes t → Bytes r → (o : Outcome) → o ≡ applied current t r a → o .number ≡ 0 → AcceptedCall t r a o
-of-promised t r a bt br o p e = rw p (accepted-call t r a bt br (rw p at e))
+of-promised : (t r a : List ℕ) → Bytes t → Bytes r → (o : Outcome) → o ≡ applied current t r a → Served t r a o
+of-promised t r a bt br o p = rw p (served t r a bt br)
+
+once : (u : CallUnit) → MeetsDemand2 u → (t r a : List ℕ) → Bytes t → Bytes r → applyVerdict current t r (length a) ≡ Accepted → u t r a ≡ applied current t r a
+once u m t r a bt br e =
+    let x = m t r a bt br in
+    let y = served t r a bt br in
+    let n = x .accepts e in
+    let k = y .accepts e in
+    served-once t r a (u t r a) (applied current t r a) (n ∙ sym k) (x .accepted n) (y .accepted k)
 
 -- a record that was read, written
 read-back : ReadWrite
@@ -150,8 +164,9 @@ read-back r buffer b e h =
 pub demand-2 : Demand2
 demand-2 =
     record {
-      accepted = accepted-call;
-      promised = λ t r a bt br d t′ a′ p e. of-promised t r a bt br _ p e;
+      of-applied = served;
+      promised = λ t r a bt br d t′ a′ p. of-promised t r a bt br _ p;
+      one-outcome = once;
       write-read = λ q items buffer f e. let w = write-read q items buffer f e in (w .size, w .reads, w .reads-items);
       read-write = read-back;
     }

@@ -12,13 +12,13 @@ use Rattle.rules.specs.Layout.{current}
 use Rattle.rules.specs.Table.{Head, Cell, cellsOf, tableBytes}
 use Rattle.rules.specs.Record.{requestOf, itemsOf}
 use Rattle.rules.specs.Refusals.{tableVerdict}
-use Rattle.rules.specs.Applied.{outcome, applied}
 use Rattle.rules.specs.declared.Verdict.{Verdict}
 use Rattle.rules.specs.declared.Verdict.the-variants.{Accepted, Refused}
 use Rattle.rules.proofs.ListsLaws.{both, by-test, flatMap-map}
 use Rattle.rules.proofs.AllLaws.{map-all, flatMap-all}
 use Rattle.rules.proofs.StepLaws.{rows-unreached}
 use Rattle.demands.specs.Demand3.{Call, Result, outcomeOn, resultOf, run, Accepted-on, Permuted, KeepsOrder, SameOutcome, Demand3}
+use Rattle.demands.proofs.NumberLaws.{accepted-number}
 use Rattle.demands.proofs.Zip.{Orders, Level, zip, level-end, level-at}
 use Rattle.demands.proofs.Positions.{position-some, all-positions, place-in, origin-in}
 use Rattle.demands.proofs.Runs.{takes, reachesHead, rowsIn, rowsOf, verdict, touches, untouched, steps, cellBefore, run-goes, cells-before, cells-after, table-after, result-same, result-at}
@@ -27,16 +27,12 @@ takes-accepted : (v : Verdict) → takes v ≡ true → v ≡ Accepted
 takes-accepted Accepted e = refl
 takes-accepted (Refused x) e = let z : _≡_ {A = ℕ} 0 1 = cc in absurd (omega arith)
 
-accepted-number : (t : List ℕ) (c : Call) → verdict t c ≡ Accepted → Accepted-on t c
-unfolding applied outcome
-accepted-number t c e = rw e
-
 -- what touches a cell is a call, accepted and reaching it
 touches-some : (t : List ℕ) (h : Head) (o : Option Call) → touches t h o ≡ true → (c : Call) × (o ≡ some c) × Accepted-on t c × (reachesHead c h ≡ true)
 touches-some t h none e = let z : _≡_ {A = ℕ} 0 1 = cc in absurd (omega arith)
 touches-some t h (some c) e =
     let b = both (takes (verdict t c)) (reachesHead c h) e in
-    (c, refl, accepted-number t c (takes-accepted (verdict t c) (b .0)), b .1)
+    (c, refl, accepted-number current t (c .req) (c .answer) (takes-accepted (verdict t c) (b .0)), b .1)
 
 module _ (t : List ℕ) (bytes : Bytes t) (legal : tableVerdict current t ≡ Accepted) (xs ys : List Call) (p : Permuted xs ys) (kept : KeepsOrder t xs (p .place)) where
   -- both orders, as one cell of the table sees them

@@ -1,6 +1,7 @@
 pub mod ContractsHold
 pub mod NumberLaws
 pub mod Demand1Holds
+pub mod Demand2Once
 pub mod Demand2Holds
 pub mod Zip
 pub mod Positions

@@ -1,6 +1,6 @@
 -- The number of a call is that of its verdict, and the first stage that refuses decides it.
 -- A verdict is a chain of stages; each is taken off its front, by its two cases.
-use mathlib.Core.Path.{_≡_, refl, sym, ap, subst}
+use mathlib.Core.Path.{_≡_, refl, sym, ap, _∙_, subst}
 use mathlib.Core.Bool.{Bool, true, false, not, _&&_}
 use mathlib.Core.List.{List, [], _∷_}
 use Prim.Native.Nat.{ℕ, zero, suc, _+_, _*_, _≤_}
@@ -10,8 +10,8 @@ use lib.ListN.{length}
 use Rattle.rules.specs.Layout.{Version, versionNumber, current, longestPeriod, recordSize, itemSize, mostItems}
 use Rattle.rules.specs.Table.{tableMarked, legalTable}
 use Rattle.rules.specs.Record.{longestAsked, requestOf, zeroByte, itemCount, itemsOf, recordMarked, kindAllows, areaFits, withinLimits, cancelsNothing}
-use Rattle.rules.specs.Refusals.{numberOf, verdictNumber, refuseUnless, _then_, tableVerdict, requestVerdict, recordVerdict}
-use Rattle.rules.specs.Applied.{fill, reading, outcome}
+use Rattle.rules.specs.Refusals.{numberOf, verdictNumber, refuseUnless, _then_, tableVerdict, requestVerdict, recordVerdict, applyVerdict}
+use Rattle.rules.specs.Applied.{fill, reading, outcome, applied}
 use Rattle.rules.specs.declared.Request.{Request}
 use Rattle.rules.specs.declared.Refusal.{Refusal}
 use Rattle.rules.specs.declared.Refusal.the-variants.{TableMark, TableWrong, RecordMark, RecordLength, RecordFields, RecordLimits, CancelsNothing, ShortBuffer, ListDamaged, TooManySegments, NoSuchSegment}
@@ -37,6 +37,11 @@ pub outcome-number : (w : Version) (v : Verdict) (q : Request) (items t a : List
 unfolding outcome
 outcome-number w Accepted q items t a = refl
 outcome-number w (Refused x) q items t a = refl
+
+-- so a call that is accepted gets 0
+pub accepted-number : (v : Version) (t r a : List ℕ) → applyVerdict v t r (length a) ≡ Accepted → applied v t r a .number ≡ 0
+unfolding applied
+accepted-number v t r a e = outcome-number v (applyVerdict v t r (length a)) (requestOf r) (itemsOf r) t a ∙ ap verdictNumber e
 
 pub lying-number : (v : Verdict) (first more : List ℕ) (k : ℕ) → lying v first more k .number ≡ verdictNumber v
 unfolding lying

@@ -1,4 +1,4 @@
--- Demand 2: an accepted call changes the reached cells by the rule of its kind and nothing else, and its answer reports those cells in order.
+-- Demand 2: a call that document 01 accepts is accepted, changes the reached cells by the rule of its kind and nothing else, and its answer reports those cells in order.
 -- A record that was written reads back as the request and items given, and one that was read is written back to the same bytes; one of version 1 (document 02, 3/13) comes back as version 2 with the same fields.
 use mathlib.Core.Path.{_≡_}
 use mathlib.Core.Bool.{Bool, true, false}
@@ -14,7 +14,7 @@ use Rattle.rules.specs.Record.{writeReplace, requestOf, itemsOf, versionIn, ren
 use Rattle.rules.specs.Reach.{reaches}
 use Rattle.rules.specs.InCell.{inCell, startsNothing}
 use Rattle.rules.specs.Answer.{Row, rowBytes, answerHead}
-use Rattle.rules.specs.Refusals.{tableVerdict}
+use Rattle.rules.specs.Refusals.{tableVerdict, applyVerdict}
 use Rattle.rules.specs.Applied.{Outcome, written, readOf, rowOf, cellRows, applied}
 use Rattle.rules.specs.Sound.{fitRequest}
 use Rattle.rules.specs.declared.Request.{Request}
@@ -111,18 +111,34 @@ pub record ReadBack (r buffer : List ℕ) : Type 0 where
 abbrev pub ReadWrite : Type 0
 ReadWrite = (r buffer : List ℕ) → Bytes r → readOf r .number ≡ 0 → length r ≤ length buffer → ReadBack r buffer
 
--- ---- THE CLAIM
+-- ---- a unit
+
+-- a table, a record and an answer buffer give all that is returned and left
+abbrev pub CallUnit : Type 0
+CallUnit = List ℕ → List ℕ → List ℕ → Outcome
 
 pub record AcceptedCall (t r a : List ℕ) (o : Outcome) : Type 0 where
   pub on-table : TableChanged t r o
   pub on-answer : Answered t r a o
   pub on-idle : Idle t r o
 
+-- of one call: what document 01 accepts is accepted, and what is accepted is done as it says
+pub record Served (t r a : List ℕ) (o : Outcome) : Type 0 where
+  pub accepts : applyVerdict current t r (length a) ≡ Accepted → o .number ≡ 0
+  pub accepted : o .number ≡ 0 → AcceptedCall t r a o
+
+abbrev pub MeetsDemand2 : CallUnit → Type 0
+MeetsDemand2 u = (t r a : List ℕ) → Bytes t → Bytes r → Served t r a (u t r a)
+
+-- ---- THE CLAIM
+
 pub record Demand2 : Type 0 where
-  -- of `applied`
-  pub accepted : (t r a : List ℕ) → Bytes t → Bytes r → applied current t r a .number ≡ 0 → AcceptedCall t r a (applied current t r a)
+  pub of-applied : MeetsDemand2 (applied current)
   -- of whatever is returned and left under the promise of the C surface
   pub promised : (t r a : List ℕ) → Bytes t → Bytes r → (d : PwsDone) (t′ a′ : List ℕ) → ApplyPromise t r a d t′ a′
-      → d .number ≡ 0 → AcceptedCall t r a (left d t′ a′)
+      → Served t r a (left d t′ a′)
+  -- the demand leaves nothing of an accepted call open
+  pub one-outcome : (u : CallUnit) → MeetsDemand2 u → (t r a : List ℕ) → Bytes t → Bytes r
+      → applyVerdict current t r (length a) ≡ Accepted → u t r a ≡ applied current t r a
   pub write-read : WriteRead
   pub read-write : ReadWrite

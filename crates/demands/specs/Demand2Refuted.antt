@@ -1,28 +1,20 @@
 -- What document 01 has demand 2 shut out: wrong units, each as a whole class, and an instance of each of the plainest.
--- None of them keeps apply's promise: each is refuted by one or two calls on document 01's sample bytes (crate rules).
+-- None of them meets demand 2: each is refuted by one or two calls on document 01's sample bytes (crate rules).
 use mathlib.Core.Path.{_≡_}
-use mathlib.Core.List.{List, [], _∷_, _++_}
+use mathlib.Core.List.{List, [], _∷_, _++_, map}
 use Prim.Native.Nat.{ℕ, _+_, _≤_}
 use lib.ListN.{take, drop}
 use lib.Seq.{sets}
-use Rattle.octets.specs.Runs.{Bytes, gets}
-use Rattle.octets.specs.Numbers.{be}
-use Rattle.rules.specs.Layout.{current, headerSize, cellSize, answerSize, rowSize}
+use Rattle.rules.specs.Layout.{current, field, headerSize, cellSize, rowFields, answerSize, rowSize}
+use Rattle.rules.specs.Table.{Cell, cellsOf}
 use Rattle.rules.specs.Record.{requestOf}
 use Rattle.rules.specs.Answer.{roomFor}
 use Rattle.rules.specs.Refusals.{numberOf}
 use Rattle.rules.specs.Applied.{Outcome, applied}
 use Rattle.rules.specs.ByHand.{answers}
+use Rattle.rules.specs.declared.Place.{Place}
 use Rattle.rules.specs.declared.Refusal.the-variants.{ShortBuffer}
-use Rattle.demands.specs.Demand2.{cellAt}
-
--- a table, a record and an answer buffer give all that is returned and left
-abbrev pub CallUnit : Type 0
-CallUnit = List ℕ → List ℕ → List ℕ → Outcome
-
--- apply's promise, kept for all bytes
-abbrev pub Meets : CallUnit → Type 0
-Meets u = (t r a : List ℕ) → Bytes t → Bytes r → u t r a ≡ applied current t r a
+use Rattle.demands.specs.Demand2.{cellAt, CallUnit, MeetsDemand2}
 
 -- ---- classes of wrong units
 
@@ -53,10 +45,38 @@ abbrev pub FirstRequestOnly : CallUnit → Type 0
 FirstRequestOnly u =
     (t r a r′ a′ : List ℕ) → u t r a .number ≡ 0 → u (u t r a .table) r′ a′ .table ≡ u t r a .table
 
--- the count of the first row does not come from the table: it is guessed from the record
+-- of an accepted call with a row, the count of the first
+abbrev pub HasRow : Outcome → Type 0
+HasRow o = (o .number ≡ 0) × (answerSize + rowSize ≤ o .length)
+
+abbrev pub firstCount : Outcome → ℕ
+firstCount o = field rowFields 1 (drop answerSize (o .answer))
+
+-- it does not come from the table: it is guessed from the record ..
 abbrev pub InventsCounts : CallUnit → Type 0
-InventsCounts u =
-    (guess : List ℕ → ℕ) × ((t r a : List ℕ) → u t r a .number ≡ 0 → answerSize + rowSize ≤ u t r a .length → be (gets (u t r a .answer) 20 2) ≡ guess r)
+InventsCounts u = (guess : List ℕ → ℕ) × ((t r a : List ℕ) → HasRow (u t r a) → firstCount (u t r a) ≡ guess r)
+
+-- .. or it comes from anywhere but the sent counts of the places: it is the same for tables that differ in these alone
+abbrev pub unsent : Place → Place
+unsent p =
+    record {
+      identifier = p .identifier;
+      serial = p .serial;
+      content = p .content;
+      period = p .period;
+      requested = p .requested;
+      sent = record { 0 = 0 };
+      wait = p .wait;
+      sib = p .sib;
+    }
+
+abbrev pub withoutSent : Cell → Cell
+withoutSent c = record { head = c .head; places = map unsent (c .places) }
+
+abbrev pub CountsWithoutSent : CallUnit → Type 0
+CountsWithoutSent u =
+    (t t′ r a : List ℕ) → map withoutSent (cellsOf current t) ≡ map withoutSent (cellsOf current t′)
+    → HasRow (u t r a) → HasRow (u t′ r a) → firstCount (u t r a) ≡ firstCount (u t′ r a)
 
 -- ---- an instance each
 
@@ -96,7 +116,7 @@ inventing t r a =
 -- ---- THE CLAIM
 
 abbrev pub ShutOut : (CallUnit → Type 0) → Type 0
-ShutOut Wrong = (u : CallUnit) → Wrong u → Meets u → ⊥
+ShutOut Wrong = (u : CallUnit) → Wrong u → MeetsDemand2 u → ⊥
 
 pub record Demand2Refuted : Type 0 where
   pub no-refusing-everything : ShutOut RefusesEverything
@@ -107,8 +127,9 @@ pub record Demand2Refuted : Type 0 where
   pub no-reporting-first-cell-only : ShutOut ReportsFirstCellOnly
   pub no-first-request-only : ShutOut FirstRequestOnly
   pub no-inventing-counts : ShutOut InventsCounts
-  pub not-refusing : Meets refusing → ⊥
-  pub not-fixed : Meets fixed → ⊥
-  pub not-unchanging : Meets unchanging → ⊥
-  pub not-firstCell : Meets firstCell → ⊥
-  pub not-inventing : Meets inventing → ⊥
+  pub no-counts-without-sent : ShutOut CountsWithoutSent
+  pub not-refusing : MeetsDemand2 refusing → ⊥
+  pub not-fixed : MeetsDemand2 fixed → ⊥
+  pub not-unchanging : MeetsDemand2 unchanging → ⊥
+  pub not-firstCell : MeetsDemand2 firstCell → ⊥
+  pub not-inventing : MeetsDemand2 inventing → ⊥
