@@ -14,6 +14,7 @@ use Rattle.rules.specs.Reach.{reaches}
 use Rattle.rules.specs.Refusals.{tableVerdict}
 use Rattle.rules.specs.Applied.{Outcome, applied}
 use Rattle.rules.specs.declared.Verdict.the-variants.{Accepted}
+use Rattle.pws.specs.Promises.{ApplyPromise}
 
 -- ---- calls, one after the other
 
@@ -96,9 +97,10 @@ Demand3 =
 
 -- ---- THE CLAIM, of any code that keeps apply's promise
 
--- what apply promises of a call on a table: all that it leaves behind is what `applied` says
+-- what `pws_apply` promises of a call on a table, of all that is left behind
 abbrev pub Promised : List ℕ → Call → Outcome → Type 0
-Promised t c o = o ≡ applied current t (c .req) (c .answer)
+Promised t c o =
+    ApplyPromise t (c .req) (c .answer) (record { number = o .number; length = o .length }) (o .table) (o .answer)
 
 -- outcomes one after the other, each as promised on the table that the one before left, end with a table and give results
 pub data Chain : List ℕ → List Call → List ℕ → List Result → Type 0 where
