@@ -1,13 +1,21 @@
--- One outcome only: what the builder answers and leaves, its arguments settle.
--- Its promise is an equation between all of it and a definition.
-use mathlib.Core.Path.{_≡_}
+-- One outcome only: what a public function of this crate answers and leaves, its contract settles.
+-- Each promise is an equation between all of it and a definition; of an answer, its number and length settle its case.
 use mathlib.Core.List.{List}
 use Prim.Native.Nat.{ℕ}
-use Rattle.octets.proofs.Once.{one-outcome}
-use Rattle.rules.specs.Applied.{filledBy, built}
+use denote.Ref.{now}
+use Rattle.octets.specs.Settled.{Settles}
+use Rattle.octets.proofs.Once.{one-outcome, both-once}
 use Rattle.rules.specs.declared.Answer.{Answer}
 use Rattle.rules.proofs.OnceLaws.{filled-injective}
+use Rattle.builder.proofs.build.Reads as build
+use Rattle.builder.proofs.put_header.Reads as put-header
+use Rattle.builder.proofs.put_head.Reads as put-head
 
-pub build-once : (heads buffer : List ℕ) (x y : Answer) (a b : List ℕ) → filledBy x a ≡ built heads buffer → filledBy y b ≡ built heads buffer
-    → (x ≡ y) × (a ≡ b)
-build-once heads buffer x y a b p q = filled-injective x y a b (one-outcome p q)
+pub build-once : Settles {X = Answer × List ℕ} build.Learnt (λ κ r e. (r, now (e .1 .0)))
+build-once κ args r s e f p q = let both = filled-injective r s (now (e .1 .0)) (now (f .1 .0)) (one-outcome p q) in both-once (both .0) (both .1)
+
+pub put-header-once : Settles put-header.Learnt (λ κ r e. now (e .0))
+put-header-once κ args r s e f = one-outcome
+
+pub put-head-once : Settles put-head.Learnt (λ κ r e. now (e .0))
+put-head-once κ args r s e f = one-outcome

@@ -1,35 +1,58 @@
--- One outcome only: what a function of this crate returns or leaves, its arguments settle.
--- Most promises are one equation, between what is returned or left and a definition; of a struct each field is settled.
+-- One outcome only: what a public function of this crate returns, its contract settles.
+-- Most promises are one equation, between what is returned and a definition; of a struct each field is settled.
 use mathlib.Core.Path.{_≡_}
-use mathlib.Core.List.{List}
-use Prim.Native.Nat.{ℕ}
-use lib.Dec.{ltb}
-use lib.ListN.{length}
+use Rattle.octets.specs.Settled.{SettlesResult}
 use Rattle.octets.proofs.Once.{one-outcome}
-use Rattle.cell.specs.Places.{livePlaces, placeAt, indexOf, HeadAreas}
-use Rattle.cell.specs.declared.read.Terms.{Terms}
-use Rattle.cell.specs.declared.read.Counts.{Counts}
-use Rattle.cell.specs.declared.read.Sought.{Sought}
-use Rattle.cell.specs.declared.read.Areas.{Areas}
+use Rattle.cell.proofs.read.is_live.Reads as is-live
+use Rattle.cell.proofs.read.text.Reads as text
+use Rattle.cell.proofs.read.content.Reads as content
+use Rattle.cell.proofs.read.sent.Reads as sent
+use Rattle.cell.proofs.read.wait.Reads as wait
+use Rattle.cell.proofs.read.place.Reads as place
+use Rattle.cell.proofs.read.identity.Reads as identity
+use Rattle.cell.proofs.read.tracking.Reads as tracking
+use Rattle.cell.proofs.read.terms_of.Reads as terms-of
+use Rattle.cell.proofs.read.counts_of.Reads as counts-of
+use Rattle.cell.proofs.read.seek.Reads as seek
+use Rattle.cell.proofs.read.areas_of.Reads as areas-of
 
--- `is_live`, `text`, `content`, `sent`, `wait`, `place`, `identity` and `tracking` return x
-pub returned-once : {A : Type 0} (x : A) {r s : A} → r ≡ x → s ≡ x → r ≡ s
-returned-once x = one-outcome
+pub is-live-once : SettlesResult is-live.Learnt
+is-live-once κ args r s e f = one-outcome
 
-pub terms-once : (c : List ℕ) (k : ℕ) (r s : Terms) → (r .period ≡ placeAt c k .period) × (r .requested ≡ placeAt c k .requested)
-    → (s .period ≡ placeAt c k .period) × (s .requested ≡ placeAt c k .requested) → r ≡ s
-terms-once c k r s p q = rw (p .0, p .1, q .0, q .1)
+pub text-once : SettlesResult text.Learnt
+text-once κ args r s e f = one-outcome
 
-pub counts-once : (c : List ℕ) (k : ℕ) (r s : Counts) → (r .sent ≡ placeAt c k .sent) × (r .wait ≡ placeAt c k .wait)
-    → (s .sent ≡ placeAt c k .sent) × (s .wait ≡ placeAt c k .wait) → r ≡ s
-counts-once c k r s p q = rw (p .0, p .1, q .0, q .1)
+pub content-once : SettlesResult content.Learnt
+content-once κ args r s e f = one-outcome
 
-pub seek-once : (c : List ℕ) (text : ℕ) (r s : Sought) → (r .at ≡ indexOf text (livePlaces c)) × (r .found ≡ ltb (r .at) (length (livePlaces c)))
-    → (s .at ≡ indexOf text (livePlaces c)) × (s .found ≡ ltb (s .at) (length (livePlaces c))) → r ≡ s
-seek-once c text r s p q = rw (p .1, p .0, q .1, q .0)
+pub sent-once : SettlesResult sent.Learnt
+sent-once κ args r s e f = one-outcome
 
-pub areas-once : (b : List ℕ) (r s : Areas) → HeadAreas b r → HeadAreas b s → r ≡ s
-areas-once b r s p q =
+pub wait-once : SettlesResult wait.Learnt
+wait-once κ args r s e f = one-outcome
+
+pub place-once : SettlesResult place.Learnt
+place-once κ args r s e f = one-outcome
+
+pub identity-once : SettlesResult identity.Learnt
+identity-once κ args r s e f = one-outcome
+
+pub tracking-once : SettlesResult tracking.Learnt
+tracking-once κ args r s e f = one-outcome
+
+-- ---- structs, field by field
+
+pub terms-of-once : SettlesResult terms-of.Learnt
+terms-of-once κ args r s e f p q = rw (p .0, p .1, q .0, q .1)
+
+pub counts-of-once : SettlesResult counts-of.Learnt
+counts-of-once κ args r s e f p q = rw (p .0, p .1, q .0, q .1)
+
+pub seek-once : SettlesResult seek.Learnt
+seek-once κ args r s e f p q = rw (p .1, p .0, q .1, q .0)
+
+pub areas-of-once : SettlesResult areas-of.Learnt
+areas-of-once κ args r s e f p q =
     let e₁ : r .first ≡ s .first = cc in
     let e₂ : r .second ≡ s .second = cc in
     let e₃ : r .third ≡ s .third = cc in

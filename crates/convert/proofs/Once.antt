@@ -1,19 +1,17 @@
--- One outcome only: what each public function of this crate answers and leaves, its arguments settle.
--- Each promise is an equation between all of it and a definition.
-use mathlib.Core.Path.{_≡_}
+-- One outcome only: what a public function of this crate answers and leaves, its contract settles.
+-- Each promise is an equation between all of it and a definition; of an answer, its number and length settle its case.
 use mathlib.Core.List.{List}
 use Prim.Native.Nat.{ℕ}
-use Rattle.octets.proofs.Once.{one-outcome}
-use Rattle.rules.specs.Layout.{version1}
-use Rattle.rules.specs.Refusals.{tableVerdict}
-use Rattle.rules.specs.Applied.{filledBy, conversion}
+use denote.Ref.{now}
+use Rattle.octets.specs.Settled.{Settles, SettlesResult}
+use Rattle.octets.proofs.Once.{one-outcome, both-once}
 use Rattle.rules.specs.declared.Answer.{Answer}
-use Rattle.rules.specs.declared.Verdict.{Verdict}
 use Rattle.rules.proofs.OnceLaws.{filled-injective}
+use Rattle.convert.proofs.convert.Reads as convert
+use Rattle.convert.proofs.judge.verdict.Reads as verdict
 
-pub convert-once : (old buffer : List ℕ) (x y : Answer) (a b : List ℕ) → filledBy x a ≡ conversion old buffer → filledBy y b ≡ conversion old buffer
-    → (x ≡ y) × (a ≡ b)
-convert-once old buffer x y a b p q = filled-injective x y a b (one-outcome p q)
+pub convert-once : Settles {X = Answer × List ℕ} convert.Learnt (λ κ r e. (r, now (e .1 .0)))
+convert-once κ args r s e f p q = let both = filled-injective r s (now (e .1 .0)) (now (f .1 .0)) (one-outcome p q) in both-once (both .0) (both .1)
 
-pub verdict-once : (old : List ℕ) {v w : Verdict} → v ≡ tableVerdict version1 old → w ≡ tableVerdict version1 old → v ≡ w
-verdict-once old = one-outcome
+pub verdict-once : SettlesResult verdict.Learnt
+verdict-once κ args r s e f = one-outcome

@@ -1,25 +1,72 @@
--- One outcome only: what a function of this crate returns or leaves, its arguments settle.
--- Each promise of this crate is an equation between what is left and a definition, so it admits one outcome; the instances below cover every read and write; for `turned64` and `says64` it is `one-outcome` itself.
+-- One outcome only: what a public function of this crate returns or leaves, its contract settles.
+-- Each promise is an equation between what is returned or left and a definition, so it admits one outcome.
 use mathlib.Core.Path.{_≡_, sym, _∙_}
-use mathlib.Core.List.{List, map}
-use Prim.Native.Nat.{ℕ}
-use lib.ListN.{drop}
-use lib.Seq.{sets}
-use Rattle.octets.specs.Runs.{gets, pieces}
-use Rattle.octets.specs.Numbers.{be}
-use Rattle.octets.specs.Joined.{joined}
+use denote.Ref.{now}
+use Rattle.octets.specs.Settled.{Settles, SettlesResult}
+use Rattle.octets.proofs.get8.Reads as get8
+use Rattle.octets.proofs.get16.Reads as get16
+use Rattle.octets.proofs.get24.Reads as get24
+use Rattle.octets.proofs.get32.Reads as get32
+use Rattle.octets.proofs.get64.Reads as get64
+use Rattle.octets.proofs.any64.Reads as any64
+use Rattle.octets.proofs.turned64.Reads as turned64
+use Rattle.octets.proofs.says64.Reads as says64
+use Rattle.octets.proofs.put8.Reads as put8
+use Rattle.octets.proofs.put16.Reads as put16
+use Rattle.octets.proofs.put24.Reads as put24
+use Rattle.octets.proofs.put32.Reads as put32
+use Rattle.octets.proofs.put64.Reads as put64
+use Rattle.octets.proofs.copy.Reads as copy
 
 pub one-outcome : {A : Type 0} {x y z : A} → x ≡ z → y ≡ z → x ≡ y
 one-outcome p q = p ∙ sym q
 
--- a read (`get8` to `get64`, by the width) returns one number
-pub read-once : (w : ℕ) (l : List ℕ) (i : ℕ) {r s : ℕ} → r ≡ be (gets l i w) → s ≡ be (gets l i w) → r ≡ s
-read-once w l i = one-outcome
+-- two parts of an outcome
+pub both-once : {A B : Type 0} {x y : A} {a b : B} → x ≡ y → a ≡ b → _≡_ {A = A × B} (x, a) (y, b)
+both-once p q i = (p i, q i)
 
--- a write (`put8` to `put64` with the bytes `toBe` of the width, `copy` with those of its source) leaves one list
-pub write-once : (l : List ℕ) (i : ℕ) (vs : List ℕ) {a b : List ℕ} → a ≡ sets l i vs → b ≡ sets l i vs → a ≡ b
-write-once l i vs = one-outcome
+-- ---- what is returned
 
--- numbers that are joined (`any64`) are one number
-pub join-once : (n : ℕ) (l : List ℕ) (i : ℕ) {r s : ℕ} → r ≡ joined 0 (map be (pieces 8 n (drop i l))) → s ≡ joined 0 (map be (pieces 8 n (drop i l))) → r ≡ s
-join-once n l i = one-outcome
+pub get8-once : SettlesResult get8.Learnt
+get8-once κ args r s e f = one-outcome
+
+pub get16-once : SettlesResult get16.Learnt
+get16-once κ args r s e f = one-outcome
+
+pub get24-once : SettlesResult get24.Learnt
+get24-once κ args r s e f = one-outcome
+
+pub get32-once : SettlesResult get32.Learnt
+get32-once κ args r s e f = one-outcome
+
+pub get64-once : SettlesResult get64.Learnt
+get64-once κ args r s e f = one-outcome
+
+pub any64-once : SettlesResult any64.Learnt
+any64-once κ args r s e f = one-outcome
+
+pub turned64-once : SettlesResult turned64.Learnt
+turned64-once κ args r s e f = one-outcome
+
+pub says64-once : SettlesResult says64.Learnt
+says64-once κ args r s e f = one-outcome
+
+-- ---- what is left in the slice
+
+pub put8-once : Settles put8.Learnt (λ κ r e. now (e .0))
+put8-once κ args r s e f = one-outcome
+
+pub put16-once : Settles put16.Learnt (λ κ r e. now (e .0))
+put16-once κ args r s e f = one-outcome
+
+pub put24-once : Settles put24.Learnt (λ κ r e. now (e .0))
+put24-once κ args r s e f = one-outcome
+
+pub put32-once : Settles put32.Learnt (λ κ r e. now (e .0))
+put32-once κ args r s e f = one-outcome
+
+pub put64-once : Settles put64.Learnt (λ κ r e. now (e .0))
+put64-once κ args r s e f = one-outcome
+
+pub copy-once : Settles copy.Learnt (λ κ r e. now (e .0))
+copy-once κ args r s e f = one-outcome

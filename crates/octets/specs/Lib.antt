@@ -3,3 +3,4 @@ pub mod Numbers
 pub mod Fields
 pub mod Turned
 pub mod Joined
+pub mod Settled

@@ -1,18 +1,29 @@
--- One outcome only: what a function of this crate returns or leaves, its arguments settle.
+-- One outcome only: what a public function of this crate returns or leaves, its contract settles.
 -- Each promise is one equation, between what is returned or left and a definition.
-use mathlib.Core.Path.{_≡_}
-use mathlib.Core.List.{List}
-use Prim.Native.Nat.{ℕ}
+use denote.Ref.{now}
+use Rattle.octets.specs.Settled.{Settles, SettlesResult}
 use Rattle.octets.proofs.Once.{one-outcome}
-use Rattle.rules.specs.Layout.{current}
-use Rattle.rules.specs.declared.Place.{Place}
-use Rattle.rules.specs.Table.{placeBytes}
-use Rattle.cell.specs.Places.{withPlaces}
+use Rattle.places.proofs.set_counts.Reads as set-counts
+use Rattle.places.proofs.set_wait.Reads as set-wait
+use Rattle.places.proofs.drop_place.Reads as drop-place
+use Rattle.places.proofs.free_all.Reads as free-all
+use Rattle.places.proofs.add_place.Reads as add-place
+use Rattle.places.proofs.place_bytes.Reads as place-bytes
 
--- `set_counts`, `set_wait`, `drop_place`, `free_all` and `add_place` leave the cell with the places ps
-pub left-once : (c : List ℕ) (ps : List Place) {a b : List ℕ} → a ≡ withPlaces c ps → b ≡ withPlaces c ps → a ≡ b
-left-once c ps = one-outcome
+pub set-counts-once : Settles set-counts.Learnt (λ κ r e. now (e .0))
+set-counts-once κ args r s e f = one-outcome
 
--- `place_bytes` returns the bytes of a place
-pub bytes-once : (p : Place) {a b : List ℕ} → a ≡ placeBytes current p → b ≡ placeBytes current p → a ≡ b
-bytes-once p = one-outcome
+pub set-wait-once : Settles set-wait.Learnt (λ κ r e. now (e .0))
+set-wait-once κ args r s e f = one-outcome
+
+pub drop-place-once : Settles drop-place.Learnt (λ κ r e. now (e .0))
+drop-place-once κ args r s e f = one-outcome
+
+pub free-all-once : Settles free-all.Learnt (λ κ r e. now (e .0))
+free-all-once κ args r s e f = one-outcome
+
+pub add-place-once : Settles add-place.Learnt (λ κ r e. now (e .0))
+add-place-once κ args r s e f = one-outcome
+
+pub place-bytes-once : SettlesResult place-bytes.Learnt
+place-bytes-once κ args r s e f = one-outcome

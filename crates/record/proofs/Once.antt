@@ -1,58 +1,57 @@
--- One outcome only: what each public function of this crate returns, its arguments settle.
+-- One outcome only: what a public function of this crate returns, its contract settles.
 -- Each promise is an equation with a definition of the rules; where a number and values stand for a case of an enum, they settle the case too.
-use mathlib.Core.Path.{_≡_}
-use mathlib.Core.Bool.{Bool}
-use mathlib.Core.List.{List, [], _∷_}
-use Prim.Native.Nat.{ℕ}
+use Rattle.octets.specs.Settled.{SettlesResult}
 use Rattle.octets.proofs.Once.{one-outcome}
-use Rattle.rules.specs.Layout.{current}
-use Rattle.rules.specs.Lists.{oneOf}
-use Rattle.rules.specs.Record.{areaFits, cancelsNothing, itemCount, itemEnd, notified, requestOf, withinLimits}
-use Rattle.rules.specs.Refusals.{recordVerdict}
-use Rattle.rules.specs.Applied.{itemAt, readBy, readOf}
-use Rattle.rules.specs.declared.Reading.{Reading}
-use Rattle.rules.specs.declared.Request.{Request}
-use Rattle.rules.specs.declared.Verdict.{Verdict}
 use Rattle.rules.proofs.OnceLaws.{reading-injective}
+use Rattle.record.proofs.read.verdict.Reads as verdict
+use Rattle.record.proofs.read.request.Reads as request
+use Rattle.record.proofs.read.count.Reads as count
+use Rattle.record.proofs.read.item.Reads as item
+use Rattle.record.proofs.read.read.Reads as read
+use Rattle.record.proofs.judge.any_area.Reads as any-area
+use Rattle.record.proofs.judge.cancel_flags.Reads as cancel-flags
+use Rattle.record.proofs.judge.item_end.Reads as item-end
+use Rattle.record.proofs.judge.names_text.Reads as names-text
+use Rattle.record.proofs.judge.area_fits.Reads as area-fits
+use Rattle.record.proofs.judge.text_within.Reads as text-within
+use Rattle.record.proofs.judge.cancels_nothing.Reads as cancels-nothing
 
--- ---- reading the bytes r
+-- ---- reading bytes
 
-module _ (r : List ℕ) where
-  pub verdict-once : {v w : Verdict} → v ≡ recordVerdict current r → w ≡ recordVerdict current r → v ≡ w
-  verdict-once = one-outcome
+pub verdict-once : SettlesResult verdict.Learnt
+verdict-once κ args r s e f = one-outcome
 
-  pub request-once : {p q : Request} → p ≡ requestOf r → q ≡ requestOf r → p ≡ q
-  request-once = one-outcome
+pub request-once : SettlesResult request.Learnt
+request-once κ args r s e f = one-outcome
 
-  pub count-once : {m n : ℕ} → m ≡ itemCount r → n ≡ itemCount r → m ≡ n
-  count-once = one-outcome
+pub count-once : SettlesResult count.Learnt
+count-once κ args r s e f = one-outcome
 
-  pub read-once : (x y : Reading) → readBy x ≡ readOf r → readBy y ≡ readOf r → x ≡ y
-  read-once x y p q = reading-injective x y (one-outcome p q)
+pub item-once : SettlesResult item.Learnt
+item-once κ args r s e f = one-outcome
 
-  pub item-once : (k : ℕ) {x y : ℕ} → x ≡ itemAt r k → y ≡ itemAt r k → x ≡ y
-  item-once k = one-outcome
+pub read-once : SettlesResult read.Learnt
+read-once κ args r s e f p q = reading-injective r s (one-outcome p q)
 
--- ---- the tests of a request q, which the writer asks too
+-- ---- the tests of a request, which the writer asks too
 
-pub any-area-once : (area : ℕ) {a b : Bool} → a ≡ oneOf area (0 ∷ 1 ∷ 2 ∷ 3 ∷ []) → b ≡ oneOf area (0 ∷ 1 ∷ 2 ∷ 3 ∷ []) → a ≡ b
-any-area-once area = one-outcome
+pub any-area-once : SettlesResult any-area.Learnt
+any-area-once κ args r s e f = one-outcome
 
-pub cancel-flags-once : (flags : ℕ) {a b : Bool} → a ≡ oneOf flags (0 ∷ 2 ∷ 4 ∷ 6 ∷ []) → b ≡ oneOf flags (0 ∷ 2 ∷ 4 ∷ 6 ∷ []) → a ≡ b
-cancel-flags-once flags = one-outcome
+pub cancel-flags-once : SettlesResult cancel-flags.Learnt
+cancel-flags-once κ args r s e f = one-outcome
 
-pub item-end-once : (area : ℕ) {m n : ℕ} → m ≡ itemEnd area → n ≡ itemEnd area → m ≡ n
-item-end-once area = one-outcome
+pub item-end-once : SettlesResult item-end.Learnt
+item-end-once κ args r s e f = one-outcome
 
-module _ (q : Request) {a b : Bool} where
-  pub names-text-once : a ≡ notified q → b ≡ notified q → a ≡ b
-  names-text-once = one-outcome
+pub names-text-once : SettlesResult names-text.Learnt
+names-text-once κ args r s e f = one-outcome
 
-  pub area-fits-once : (n : ℕ) → a ≡ areaFits q n → b ≡ areaFits q n → a ≡ b
-  area-fits-once n = one-outcome
+pub area-fits-once : SettlesResult area-fits.Learnt
+area-fits-once κ args r s e f = one-outcome
 
-  pub text-within-once : (longest : ℕ) → a ≡ withinLimits longest q [] → b ≡ withinLimits longest q [] → a ≡ b
-  text-within-once longest = one-outcome
+pub text-within-once : SettlesResult text-within.Learnt
+text-within-once κ args r s e f = one-outcome
 
-  pub cancels-nothing-once : a ≡ cancelsNothing q → b ≡ cancelsNothing q → a ≡ b
-  cancels-nothing-once = one-outcome
+pub cancels-nothing-once : SettlesResult cancels-nothing.Learnt
+cancels-nothing-once κ args r s e f = one-outcome

@@ -1,17 +1,21 @@
--- One outcome only: what each public function of this crate returns and leaves, its arguments settle. Of a reference: its bytes and where they lie.
+-- One outcome only: what a public function of this crate returns and leaves, its contract settles. Of a reference: its bytes and where they lie.
 use mathlib.Core.Path.{_≡_, ap}
 use mathlib.Core.List.{List}
 use Prim.Native.Nat.{ℕ}
 use native.Mathlib.Omega.{arith}
-use denote.Ref.{RefT, now, ptr}
-use Rattle.octets.proofs.Once.{one-outcome}
-use Rattle.rules.specs.Applied.{filledBy}
+use denote.Ref.{now, ptr}
+use Rattle.octets.specs.Settled.{Settles, SettlesResult}
+use Rattle.octets.proofs.Once.{one-outcome, both-once}
 use Rattle.rules.specs.declared.Answer.{Answer}
 use Rattle.rules.proofs.OnceLaws.{filled-injective, number-injective}
 use Rattle.rules.proofs.OutcomeLaws.{number-positive}
-use Rattle.segments.specs.Segments.{Lies, segmentOf, liesAt, liesBy, lentFrom, packed}
+use Rattle.segments.specs.Segments.{Lies, liesBy}
 use Rattle.segments.specs.declared.read.Part.{Part}
 use Rattle.segments.specs.declared.read.Part.the-variants.{First, Listed, Nothing}
+use Rattle.segments.proofs.read.segment.Reads as segment
+use Rattle.segments.proofs.read.locate.Reads as locate
+use Rattle.segments.proofs.read.number.Reads as number
+use Rattle.segments.proofs.pack.pack.Reads as pack
 
 -- no two parts say the same
 part-injective : (x y : Part) → liesBy x ≡ liesBy y → x ≡ y
@@ -40,17 +44,14 @@ part-injective (Nothing x) (Listed b n) e =
     absurd (omega arith)
 part-injective (Nothing x) (Nothing y) e = ap Nothing (number-injective x y (ap (λ (l : Lies). l .number) e))
 
-module _ (first more : List ℕ) (k : ℕ) where
-  pub segment-once : (p q : ℕ × ℕ) (r s : RefT (List ℕ)) → (now r ≡ segmentOf first more k) × (ptr r ≡ lentFrom p q (liesAt first more k))
-      → (now s ≡ segmentOf first more k) × (ptr s ≡ lentFrom p q (liesAt first more k)) → (now r ≡ now s) × (ptr r ≡ ptr s)
-  segment-once p q r s a b = (one-outcome (a .0) (b .0), one-outcome (a .1) (b .1))
+pub segment-once : Settles {X = List ℕ × (ℕ × ℕ)} segment.Learnt (λ κ r e. (now r, ptr r))
+segment-once κ args r s e f p q = both-once (one-outcome (p .0) (q .0)) (one-outcome (p .1) (q .1))
 
-  pub locate-once : (x y : Part) → liesBy x ≡ liesAt first more k → liesBy y ≡ liesAt first more k → x ≡ y
-  locate-once x y p q = part-injective x y (one-outcome p q)
+pub locate-once : SettlesResult locate.Learnt
+locate-once κ args r s e f p q = part-injective r s (one-outcome p q)
 
-  pub number-once : {m n : ℕ} → m ≡ liesAt first more k .number → n ≡ liesAt first more k .number → m ≡ n
-  number-once = one-outcome
+pub number-once : SettlesResult number.Learnt
+number-once κ args r s e f = one-outcome
 
-pub pack-once : (bytes lengths buffer : List ℕ) (x y : Answer) (a b : List ℕ) → filledBy x a ≡ packed bytes lengths buffer → filledBy y b ≡ packed bytes lengths buffer
-    → (x ≡ y) × (a ≡ b)
-pack-once bytes lengths buffer x y a b p q = filled-injective x y a b (one-outcome p q)
+pub pack-once : Settles {X = Answer × List ℕ} pack.Learnt (λ κ r e. (r, now (e .1 .1 .0)))
+pack-once κ args r s e f p q = let both = filled-injective r s (now (e .1 .1 .0)) (now (f .1 .1 .0)) (one-outcome p q) in both-once (both .0) (both .1)

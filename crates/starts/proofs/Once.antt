@@ -1,18 +1,12 @@
--- One outcome only: what a function of this crate returns, the request settles.
+-- One outcome only: what a public function of this crate returns, its contract settles.
 -- Each promise is one equation, between what is returned and a definition.
-use mathlib.Core.Path.{_≡_}
-use mathlib.Core.Bool.{Bool}
-use mathlib.Core.List.{List}
-use Prim.Native.Nat.{ℕ}
+use Rattle.octets.specs.Settled.{SettlesResult}
 use Rattle.octets.proofs.Once.{one-outcome}
-use Rattle.rules.specs.Layout.{current}
-use Rattle.rules.specs.Table.{placeBytes}
-use Rattle.rules.specs.InCell.{startsNothing, newPlace}
-use Rattle.rules.specs.declared.Request.{Request}
+use Rattle.starts.proofs.starts_nothing.Reads as starts-nothing
+use Rattle.starts.proofs.new_bytes.Reads as new-bytes
 
-module _ (q : Request) where
-  pub starts-nothing-once : {a b : Bool} → a ≡ startsNothing q → b ≡ startsNothing q → a ≡ b
-  starts-nothing-once = one-outcome
+pub starts-nothing-once : SettlesResult starts-nothing.Learnt
+starts-nothing-once κ args r s e f = one-outcome
 
-  pub bytes-once : {a b : List ℕ} → a ≡ placeBytes current (newPlace q) → b ≡ placeBytes current (newPlace q) → a ≡ b
-  bytes-once = one-outcome
+pub new-bytes-once : SettlesResult new-bytes.Learnt
+new-bytes-once κ args r s e f = one-outcome

@@ -1,17 +1,24 @@
--- One outcome only: what a public function of this crate returns, its arguments settle.
+-- One outcome only: what a public function of this crate returns, its contract settles.
 -- Each promise is an equation between what is returned and a definition, so it admits one outcome.
-use mathlib.Core.Path.{_≡_}
-use mathlib.Core.Bool.{Bool}
-use mathlib.Core.List.{List}
-use Prim.Native.Nat.{ℕ}
+use Rattle.octets.specs.Settled.{SettlesResult}
 use Rattle.octets.proofs.Once.{one-outcome}
-use Rattle.rules.specs.Layout.{current}
-use Rattle.rules.specs.Table.{legalHead}
-use Rattle.rules.specs.Refusals.{tableVerdict}
-use Rattle.rules.specs.declared.Verdict.{Verdict}
+use Rattle.table.proofs.verdict.Reads as verdict
+use Rattle.table.proofs.marked.Reads as marked
+use Rattle.table.proofs.header_legal.Reads as header-legal
+use Rattle.table.proofs.head_legal.Reads as head-legal
+use Rattle.table.proofs.places_legal.Reads as places-legal
 
-pub verdict-once : (t : List ℕ) {v w : Verdict} → v ≡ tableVerdict current t → w ≡ tableVerdict current t → v ≡ w
-verdict-once t = one-outcome
+pub verdict-once : SettlesResult verdict.Learnt
+verdict-once κ args r s e f = one-outcome
 
-pub head-once : (head : List ℕ) {x y : Bool} → x ≡ legalHead head → y ≡ legalHead head → x ≡ y
-head-once head = one-outcome
+pub marked-once : SettlesResult marked.Learnt
+marked-once κ args r s e f = one-outcome
+
+pub header-legal-once : SettlesResult header-legal.Learnt
+header-legal-once κ args r s e f = one-outcome
+
+pub head-legal-once : SettlesResult head-legal.Learnt
+head-legal-once κ args r s e f = one-outcome
+
+pub places-legal-once : SettlesResult places-legal.Learnt
+places-legal-once κ args r s e f = one-outcome

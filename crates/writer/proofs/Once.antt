@@ -1,14 +1,13 @@
--- One outcome only: what the writer answers and leaves, its arguments settle.
--- Its promise is an equation between all of it and a definition.
-use mathlib.Core.Path.{_≡_}
+-- One outcome only: what the writer answers and leaves, its contract settles.
+-- Its promise is an equation between all of it and a definition; the answer's number and length settle its case.
 use mathlib.Core.List.{List}
 use Prim.Native.Nat.{ℕ}
-use Rattle.octets.proofs.Once.{one-outcome}
-use Rattle.rules.specs.Applied.{filledBy, written}
+use denote.Ref.{now}
+use Rattle.octets.specs.Settled.{Settles}
+use Rattle.octets.proofs.Once.{one-outcome, both-once}
 use Rattle.rules.specs.declared.Answer.{Answer}
-use Rattle.rules.specs.declared.Request.{Request}
 use Rattle.rules.proofs.OnceLaws.{filled-injective}
+use Rattle.writer.proofs.write.Reads as write
 
-pub write-once : (q : Request) (items buffer : List ℕ) (x y : Answer) (a b : List ℕ) → filledBy x a ≡ written q items buffer → filledBy y b ≡ written q items buffer
-    → (x ≡ y) × (a ≡ b)
-write-once q items buffer x y a b p q′ = filled-injective x y a b (one-outcome p q′)
+pub write-once : Settles {X = Answer × List ℕ} write.Learnt (λ κ r e. (r, now (e .1 .1 .0)))
+write-once κ args r s e f p q = let both = filled-injective r s (now (e .1 .1 .0)) (now (f .1 .1 .0)) (one-outcome p q) in both-once (both .0) (both .1)
