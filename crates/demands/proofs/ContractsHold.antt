@@ -1,6 +1,13 @@
--- The contracts of the C surface ask for nothing, are met, and say the promises.
+-- The contracts of the C surface ask for nothing, are met, say the promises, and admit one outcome only.
 -- The first and the last by what each contract says; that the code meets it is the function's own theorem.
-use Rattle.demands.specs.Contracts.{AsksNothing, CodeMeets, LearnsPromises, Contracts}
+use mathlib.Core.Path.{_≡_}
+use mathlib.Core.List.{List}
+use Prim.Native.Nat.{ℕ}
+use denote.Ref.{now}
+use Rattle.octets.proofs.Once.{one-outcome}
+use Rattle.pws.specs.Surface.{filled, left}
+use Rattle.pws.specs.declared.PwsDone.{PwsDone}
+use Rattle.demands.specs.Contracts.{AsksNothing, CodeMeets, LearnsPromises, Contracts, OneOutcome}
 use Rattle.pws.proofs.pws_build.Met as build
 use Rattle.pws.proofs.pws_convert.Met as convert
 use Rattle.pws.proofs.pws_apply.Met as apply
@@ -51,3 +58,25 @@ learns-promises =
 
 pub contracts-hold : Contracts
 contracts-hold = record { asks-nothing = asks-nothing; code-meets = code-meets; learns-promises = learns-promises }
+
+-- ---- one outcome only: each promise is an equation between all of it and a definition
+
+-- what says the same of one buffer, and of two, is the same
+filled-once : (d e : PwsDone) (a b : List ℕ) → filled d a ≡ filled e b → _≡_ {A = PwsDone × List ℕ} (d, a) (e, b)
+filled-once d e a b p i = (record { number = p i .number; length = p i .length }, p i .buffer)
+
+left-once : (d e : PwsDone) (a x b y : List ℕ) → left d a x ≡ left e b y → _≡_ {A = PwsDone × List ℕ × List ℕ} (d, a, x) (e, b, y)
+left-once d e a x b y p i = (record { number = p i .number; length = p i .length }, p i .table, p i .answer)
+
+pub one-outcome-only : OneOutcome
+one-outcome-only =
+    record {
+      build-once = λ κs args d e x y p q. filled-once d e (now (x .1 .0)) (now (y .1 .0)) (one-outcome p q);
+      convert-once = λ κs args d e x y p q. filled-once d e (now (x .1 .0)) (now (y .1 .0)) (one-outcome p q);
+      apply-once = λ κs args d e x y p q. left-once d e (now (x .0)) (now (x .1 .1 .0)) (now (y .0)) (now (y .1 .1 .0)) (one-outcome p q);
+      read-once = λ κs args d e x y p q i. let o = one-outcome p q i in record { number = o .number; request = o .request; items = o .items };
+      write-once = λ κs args d e x y p q. filled-once d e (now (x .1 .1 .0)) (now (y .1 .1 .0)) (one-outcome p q);
+      item-once = λ κs args m n x y. one-outcome;
+      segment-once = λ κs args d e x y p q i. let o = one-outcome p q i in record { number = o .number; buffer = o .buffer; start = o .start; length = o .length };
+      pack-once = λ κs args d e x y p q. filled-once d e (now (x .1 .1 .0)) (now (y .1 .1 .0)) (one-outcome p q);
+    }

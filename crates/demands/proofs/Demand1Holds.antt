@@ -1,4 +1,4 @@
--- Demand 1 holds, and each promise admits one outcome only.
+-- Demand 1 holds.
 -- What is returned and left is what the definition says: its number is the verdict's (NumberLaws), and its refusals leave everything as it was.
 use mathlib.Core.Path.{_≡_, refl, ap, _∙_}
 use mathlib.Core.List.{List}
@@ -6,7 +6,6 @@ use Prim.Native.Nat.{ℕ}
 use native.Mathlib.Omega.{arith}
 use lib.Dec.{leb}
 use lib.ListN.{length}
-use Rattle.octets.proofs.Once.{one-outcome}
 use Rattle.rules.specs.Layout.{version1, current, mostItems}
 use Rattle.rules.specs.Record.{requestOf, itemsOf}
 use Rattle.rules.specs.Refusals.{verdictNumber, legalHeads, buildVerdict, convertVerdict, applyVerdict, writeVerdict}
@@ -17,7 +16,7 @@ use Rattle.segments.specs.Segments.{Lies, mostSegments, lengthsFit, liesAt, pac
 use Rattle.segments.proofs.Refused.{lies-refused, packed-refused}
 use Rattle.pws.specs.Surface.{filled}
 use Rattle.pws.specs.declared.PwsDone.{PwsDone}
-use Rattle.demands.specs.Demand1.{Stage, Filling, Demand1, OneOutcome}
+use Rattle.demands.specs.Demand1.{Stage, Filling, Demand1}
 use Rattle.demands.proofs.ContractsHold.{contracts-hold}
 use Rattle.demands.proofs.NumberLaws.{fill-number, reading-number, outcome-number, lying-number, within-table, within-asked, within-record, within-room, within-segment, within-last, chain, EachWithin, numbered}
 
@@ -104,33 +103,4 @@ demand-1 =
           let x = lies-refused first more k (λ z. h (number-lies e ∙ z)) in
           (buffer-lies e ∙ x .0, start-lies e ∙ x .1, length-lies e ∙ x .2);
       item-answers = λ req k. (itemAt req k, refl);
-    }
-
--- ---- one outcome only
-
-pub one-outcome-only : OneOutcome
-one-outcome-only =
-    record {
-      build-once = λ heads table d e table′ table″ p q.
-          let o = one-outcome p q in
-          (number-filled o, length-filled o, buffer-filled o);
-      convert-once = λ old table d e table′ table″ p q.
-          let o = one-outcome p q in
-          (number-filled o, length-filled o, buffer-filled o);
-      apply-once = λ table req answer d e table′ answer′ table″ answer″ p q.
-          let o = one-outcome p q in
-          (number-left o, length-left o, table-left o, answer-left o);
-      read-once = λ req d e p q.
-          let o = one-outcome p q in
-          (number-read o, request-read o, items-read o);
-      write-once = λ request items buffer d e buffer′ buffer″ p q.
-          let o = one-outcome p q in
-          (number-filled o, length-filled o, buffer-filled o);
-      item-once = λ req k m n p q. one-outcome p q;
-      segment-once = λ first more k p q a b.
-          let o = one-outcome a b in
-          (number-lies o, buffer-lies o, start-lies o, length-lies o);
-      pack-once = λ bytes lengths list d e list′ list″ p q.
-          let o = one-outcome p q in
-          (number-filled o, length-filled o, buffer-filled o);
     }

@@ -4,6 +4,7 @@ use mathlib.Core.List.{List}
 use Prim.Native.Nat.{ℕ}
 use contract.Lifetimes.{Lfts}
 use denote.Ref.{RefT, now}
+use Rattle.octets.specs.Settled.{Settles, SettlesResult}
 use Rattle.rules.specs.declared.Request.{Request}
 use Rattle.pws.specs.Promises.{BuildPromise, ConvertPromise, ApplyPromise, ReadPromise, WritePromise, ItemPromise, SegmentPromise, PackPromise}
 use Rattle.pws.specs.declared.PwsDone.{PwsDone}
@@ -85,3 +86,16 @@ pub record Contracts : Type 2 where
   pub asks-nothing : AsksNothing
   pub code-meets : CodeMeets
   pub learns-promises : LearnsPromises
+
+-- ---- THE CLAIM: one outcome only
+
+-- all that two calls with the same arguments return and leave is the same
+pub record OneOutcome : Type 0 where
+  pub build-once : Settles {X = PwsDone × List ℕ} build.Learnt (λ κs d exit. (d, now (exit .1 .0)))
+  pub convert-once : Settles {X = PwsDone × List ℕ} convert.Learnt (λ κs d exit. (d, now (exit .1 .0)))
+  pub apply-once : Settles {X = PwsDone × List ℕ × List ℕ} apply.Learnt (λ κs d exit. (d, now (exit .0), now (exit .1 .1 .0)))
+  pub read-once : SettlesResult read.Learnt
+  pub write-once : Settles {X = PwsDone × List ℕ} write.Learnt (λ κs d exit. (d, now (exit .1 .1 .0)))
+  pub item-once : SettlesResult item.Learnt
+  pub segment-once : SettlesResult segment.Learnt
+  pub pack-once : Settles {X = PwsDone × List ℕ} pack.Learnt (λ κs d exit. (d, now (exit .1 .1 .0)))
