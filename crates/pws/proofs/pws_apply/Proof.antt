@@ -19,7 +19,9 @@ same-length-2 : tie.Need-same-length-2
 same-length-2 c = search needs
 
 returns : tie.Need-returns
-returns c = ap (λ d. left d (c .before .before .before .before .before .apply .last .0) (c .before .before .before .before .before .apply .last .1 .1 .0)) (c .done .ensures) ∙ c .before .before .before .before .before .apply .ensures
+returns c =
+    let call = c .before .before .before .before .before .apply in
+    ap (λ d. left d (call .last .0) (call .last .1 .1 .0)) (c .done .ensures) ∙ call .ensures
 
 pub pws-apply-spec : {M : Type 1} → statement M
 pws-apply-spec =

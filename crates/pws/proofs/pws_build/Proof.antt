@@ -16,7 +16,9 @@ same-length : tie.Need-same-length
 same-length c = search needs
 
 returns : tie.Need-returns
-returns c = ap (λ d. filled d (c .before .before .before .build .last .1 .0)) (c .done .ensures) ∙ c .before .before .before .build .ensures
+returns c =
+    let call = c .before .before .before .build in
+    ap (λ d. filled d (call .last .1 .0)) (c .done .ensures) ∙ call .ensures
 
 pub pws-build-spec : {M : Type 1} → statement M
 pws-build-spec = tie.close (tie.spec build-requires done-requires same-length returns)

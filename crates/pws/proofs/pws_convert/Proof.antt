@@ -16,7 +16,9 @@ same-length : tie.Need-same-length
 same-length c = search needs
 
 returns : tie.Need-returns
-returns c = ap (λ d. filled d (c .before .before .before .convert .last .1 .0)) (c .done .ensures) ∙ c .before .before .before .convert .ensures
+returns c =
+    let call = c .before .before .before .convert in
+    ap (λ d. filled d (call .last .1 .0)) (c .done .ensures) ∙ call .ensures
 
 pub pws-convert-spec : {M : Type 1} → statement M
 pws-convert-spec = tie.close (tie.spec convert-requires done-requires same-length returns)

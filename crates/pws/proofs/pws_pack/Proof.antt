@@ -16,7 +16,9 @@ same-length : tie.Need-same-length
 same-length c = search needs
 
 returns : tie.Need-returns
-returns c = ap (λ d. filled d (c .before .before .before .pack .last .1 .1 .0)) (c .done .ensures) ∙ c .before .before .before .pack .ensures
+returns c =
+    let call = c .before .before .before .pack in
+    ap (λ d. filled d (call .last .1 .1 .0)) (c .done .ensures) ∙ call .ensures
 
 pub pws-pack-spec : {M : Type 1} → statement M
 pws-pack-spec = tie.close (tie.spec pack-requires done-requires same-length returns)

@@ -16,7 +16,9 @@ same-length : tie.Need-same-length
 same-length c = search needs
 
 returns : tie.Need-returns
-returns c = ap (λ d. filled d (c .before .before .before .write .last .1 .1 .0)) (c .done .ensures) ∙ c .before .before .before .write .ensures
+returns c =
+    let call = c .before .before .before .write in
+    ap (λ d. filled d (call .last .1 .1 .0)) (c .done .ensures) ∙ call .ensures
 
 pub pws-write-spec : {M : Type 1} → statement M
 pws-write-spec = tie.close (tie.spec write-requires done-requires same-length returns)
