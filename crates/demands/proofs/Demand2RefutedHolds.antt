@@ -1,6 +1,7 @@
 -- None of the wrong units meets demand 2.
 -- Six accepted calls are computed, of which the demand leaves nothing open; each wrong unit differs from one of them, or from two, in a byte or a length.
 use mathlib.Core.Path.{_≡_, refl, sym, ap, _∙_}
+use mathlib.Core.Bool.{false}
 use mathlib.Core.List.{List, _++_, map, flatMap}
 use Prim.Native.Nat.{ℕ, _+_}
 use native.Mathlib.Omega.{arith}
@@ -11,7 +12,7 @@ use Rattle.octets.specs.Fields.{size, numbers, bytesOf, filled}
 use Rattle.rules.specs.Lists.{every, any, those, zeros, oneOf, above, ascending}
 use Rattle.rules.specs.Layout.{current, field, headerSize, headSize, cellSize}
 use Rattle.rules.specs.Table.{headOf, headNumbers, headBytes, legalHead, placeOf, placeNumbers, placeBytes, isFree, isLive, liveFirst, placesOf, legalPlace, isText, running, different, legalPlaces, cellOf, placesBytes, cellBytes, legalCell, cellsOf, headerBytes, tableBytes, tableMarked, legalTable}
-use Rattle.rules.specs.Record.{requestOf, itemsOf, recordMarked, row, kindAllows, areaFits, withinLimits, cancelsNothing}
+use Rattle.rules.specs.Record.{cancelOrKill, cancelAll, requestOf, itemsOf, recordMarked, row, kindAllows, areaFits, withinLimits, cancelsNothing}
 use Rattle.rules.specs.Reach.{names, reaches}
 use Rattle.rules.specs.InCell.{startsNothing, newPlace, start, cancel, inCell}
 use Rattle.rules.specs.Answer.{rowBytes, answerHead, answerBytes, roomFor}
@@ -45,6 +46,8 @@ record Computed : Type 0 where
   stopped-twice : Computes twice stopping (leaves (one (free 4)) (answers 2 4370 16 1 ++ says 16 2 0))
   -- a start needs room for one row of a cell
   one-row : roomFor (requestOf starting .kind) 1 ≡ 26
+  -- the cancel names one text
+  stops-one : (requestOf stopping .kind ≡ cancelOrKill) × (cancelAll (requestOf stopping) ≡ false)
   -- the text sent once and twice: the same but for that
   same-unsent : map withoutSent (cellsOf current (one (flood 1 1))) ≡ map withoutSent (cellsOf current twice)
 
@@ -59,6 +62,7 @@ computed =
       stopped-once = record { are-bytes = (bytes-tested (one (flood 1 1)) refl, bytes-tested stopping refl); accepted = refl; gives = refl };
       stopped-twice = record { are-bytes = (bytes-tested twice refl, bytes-tested stopping refl); accepted = refl; gives = refl };
       one-row = refl;
+      stops-one = (refl, refl);
       same-unsent = refl;
     }
 
@@ -125,7 +129,10 @@ module _ (u : CallUnit) (m : MeetsDemand2 u) where
   not-without-sent h =
       let n : u (one (flood 1 1)) stopping blank .length ≡ 26 = ap (λ (o : Outcome). o .length) (gives (computed .stopped-once)) in
       let k : u twice stopping blank .length ≡ 26 = ap (λ (o : Outcome). o .length) (gives (computed .stopped-twice)) in
-      let s = h (one (flood 1 1)) twice stopping blank (computed .same-unsent) (ap (λ (o : Outcome). o .number) (gives (computed .stopped-once)), omega arith) (ap (λ (o : Outcome). o .number) (gives (computed .stopped-twice)), omega arith) in
+      let s =
+      h (one (flood 1 1)) twice stopping blank (computed .same-unsent)
+      (computed .stops-one .0, computed .stops-one .1, ap (λ (o : Outcome). o .number) (gives (computed .stopped-once)), omega arith)
+      (computed .stops-one .0, computed .stops-one .1, ap (λ (o : Outcome). o .number) (gives (computed .stopped-twice)), omega arith) in
       let z : _≡_ {A = ℕ} 1 2 = sym (ap firstCount (gives (computed .stopped-once))) ∙ s ∙ ap firstCount (gives (computed .stopped-twice)) in
       omega arith
 

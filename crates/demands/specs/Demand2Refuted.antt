@@ -1,13 +1,14 @@
 -- What document 01 has demand 2 shut out: wrong units, each as a whole class, and an instance of each of the plainest.
 -- None of them meets demand 2: each is refuted by one or two calls on document 01's sample bytes (crate rules).
 use mathlib.Core.Path.{_≡_}
+use mathlib.Core.Bool.{false}
 use mathlib.Core.List.{List, [], _∷_, _++_, map}
 use Prim.Native.Nat.{ℕ, _+_, _≤_}
 use lib.ListN.{take, drop}
 use lib.Seq.{sets}
 use Rattle.rules.specs.Layout.{current, field, headerSize, cellSize, rowFields, answerSize, rowSize}
 use Rattle.rules.specs.Table.{Cell, cellsOf}
-use Rattle.rules.specs.Record.{requestOf}
+use Rattle.rules.specs.Record.{cancelOrKill, cancelAll, requestOf}
 use Rattle.rules.specs.Answer.{roomFor}
 use Rattle.rules.specs.Refusals.{numberOf}
 use Rattle.rules.specs.Applied.{Outcome, applied}
@@ -45,16 +46,20 @@ abbrev pub FirstRequestOnly : CallUnit → Type 0
 FirstRequestOnly u =
     (t r a r′ a′ : List ℕ) → u t r a .number ≡ 0 → u (u t r a .table) r′ a′ .table ≡ u t r a .table
 
--- of an accepted call with a row, the count of the first
-abbrev pub HasRow : Outcome → Type 0
-HasRow o = (o .number ≡ 0) × (answerSize + rowSize ≤ o .length)
+-- a cancel of one text, accepted and with a row; the count of the first row
+abbrev pub StopsText : List ℕ → Outcome → Type 0
+StopsText r o =
+    (requestOf r .kind ≡ cancelOrKill)
+    × (cancelAll (requestOf r) ≡ false)
+    × (o .number ≡ 0)
+    × (answerSize + rowSize ≤ o .length)
 
 abbrev pub firstCount : Outcome → ℕ
 firstCount o = field rowFields 1 (drop answerSize (o .answer))
 
 -- it does not come from the table: it is guessed from the record ..
 abbrev pub InventsCounts : CallUnit → Type 0
-InventsCounts u = (guess : List ℕ → ℕ) × ((t r a : List ℕ) → HasRow (u t r a) → firstCount (u t r a) ≡ guess r)
+InventsCounts u = (guess : List ℕ → ℕ) × ((t r a : List ℕ) → StopsText r (u t r a) → firstCount (u t r a) ≡ guess r)
 
 -- .. or it comes from anywhere but the sent counts of the places: it is the same for tables that differ in these alone
 abbrev pub unsent : Place → Place
@@ -76,7 +81,7 @@ withoutSent c = record { head = c .head; places = map unsent (c .places) }
 abbrev pub CountsWithoutSent : CallUnit → Type 0
 CountsWithoutSent u =
     (t t′ r a : List ℕ) → map withoutSent (cellsOf current t) ≡ map withoutSent (cellsOf current t′)
-    → HasRow (u t r a) → HasRow (u t′ r a) → firstCount (u t r a) ≡ firstCount (u t′ r a)
+    → StopsText r (u t r a) → StopsText r (u t′ r a) → firstCount (u t r a) ≡ firstCount (u t′ r a)
 
 -- ---- an instance each
 
