@@ -1,2 +1,2 @@
 // No code: the demands stand in specs/, as statements about document 01's definitions (crate rules), and their proofs in proofs/.
-// Every promise of a public function cites the same definitions.
+// Contracts says of the C functions' own contracts that they ask for nothing, are met and say the promises that the demands are about.
