@@ -1,10 +1,9 @@
 -- The head of an answer as two numbers: mark, version, kind and identifier in eight bytes, serial number and rows in four.
 -- Numbers side by side are one, by the law over their widths.
 use mathlib.Core.Path.{_≡_, refl, sym, ap, _∙_}
-use mathlib.Core.List.{List, [], _∷_, _++_, append-assoc, append-nil}
-use Prim.Native.Nat.{ℕ, _+_, _*_, _^_, _<_, _≤_}
+use mathlib.Core.List.{List, [], _++_, append-assoc, append-nil}
+use Prim.Native.Nat.{ℕ, _+_, _*_, _<_}
 use native.Mathlib.Omega.{arith}
-use lib.ListN.{length}
 use lib.Seq.{sets}
 use Rattle.octets.specs.Numbers.{toBe}
 use Rattle.octets.specs.Fields.{bytesOf}

@@ -1,11 +1,7 @@
 -- `verdict` gives the first of the refusals 1 to 8 that applies.
 -- Each way out is its case of `applyVerdict`, by the verdicts that led there.
-use mathlib.Core.Path.{_≡_, sym, ap, _∙_}
-use Prim.Native.Nat.{_≤_, _<_}
+use mathlib.Core.Path.{sym, _∙_}
 use native.Mathlib.Omega.{arith}
-use Rattle.rules.specs.Record.{requestOf}
-use Rattle.rules.specs.Table.{cellCount}
-use Rattle.rules.specs.Answer.{roomFor}
 use Rattle.engine.proofs.ApplyLaws.{table-refused, record-refused, room-refused, none-refused, long-table, long-record, few-cells}
 use borrow.Author.Needs.{needs}
 use Rattle.engine.proofs.apply.verdict.Statement.{statement}
