@@ -1,7 +1,7 @@
 -- What is read of a cell: a field of a live place, its text as one number, the mark of a live place, the fields of the head.
 -- The bytes of place k are those of live place k, and the layout says where a field stands in them.
 use mathlib.Core.Path.{_≡_, refl, sym, ap, _∙_}
-use mathlib.Core.Bool.{Bool, true, false, not, _||_}
+use mathlib.Core.Bool.{not}
 use mathlib.Core.List.{List, [], _∷_}
 use Prim.Native.Nat.{ℕ, _+_, _*_, _/_, _%_, _<_, _≤_}
 use native.Mathlib.Nat.{add-zero}
@@ -9,7 +9,6 @@ use native.Mathlib.Omega.{arith}
 use borrow.Author.Tests.{ltb-true, ltb-false}
 use lib.Dec.{eqb, ltb}
 use lib.ListN.{length, getD, take}
-use lib.Seq.{take-all}
 use Rattle.octets.specs.Runs.{gets, Bytes}
 use Rattle.octets.specs.Numbers.{be}
 use Rattle.octets.specs.Fields.{size, offset, numbers}
@@ -17,7 +16,6 @@ use Rattle.octets.proofs.RunsLaws.{length-gets, bytes-gets}
 use Rattle.octets.proofs.NumbersLaws.{be-lt, be-run}
 use Rattle.octets.proofs.FieldsLaws.{number-at, numbers-take}
 use Rattle.octets.proofs.PartsLaws.{field-within}
-use Rattle.rules.specs.Lists.{any, oneOf}
 use Rattle.rules.specs.Layout as layout
 use Rattle.rules.specs.Layout.{current, headFields, placeFields, headSize, placeSize, placesPerCell, cellSize}
 use Rattle.rules.specs.Table.{areasUsed, headOf, allAreas, placeNumbers, placeBytes}
@@ -145,31 +143,3 @@ module _ (c : List ℕ) (long : length c ≡ cellSize current) where
       let all : a .first ∷ a .second ∷ a .third ∷ a .fourth ∷ [] ≡ allAreas b =
       rw (four b, head-read 3 (omega arith), head-read 4 (omega arith), head-read 5 (omega arith), head-read 6 (omega arith), e₁, e₂, e₃, e₄) in
       record { used = used; four = all; in-use = rw (used, all) }
-
--- ---- an area among those in use
-
-or-false : (b : Bool) → b ≡ b || false
-or-false true = refl
-or-false false = refl
-
-module _ (item : ℕ) (a : Areas) where
-  pub has-none : a .used ≡ 0 → false ≡ oneOf item (areasIn a)
-  unfolding areasIn oneOf any
-  has-none e = rw e
-
-  pub has-one : a .used ≡ 1 → eqb item (a .first) ≡ oneOf item (areasIn a)
-  unfolding areasIn oneOf any
-  has-one e = rw e (or-false (eqb item (a .first)))
-
-  pub has-two : a .used ≡ 2 → eqb item (a .first) || eqb item (a .second) ≡ oneOf item (areasIn a)
-  unfolding areasIn oneOf any
-  has-two e = rw (e, ← or-false (eqb item (a .second)))
-
-  pub has-three : a .used ≡ 3 → eqb item (a .first) || (eqb item (a .second) || eqb item (a .third)) ≡ oneOf item (areasIn a)
-  unfolding areasIn oneOf any
-  has-three e = rw (e, ← or-false (eqb item (a .third)))
-
-  pub has-four : 4 ≤ a .used → eqb item (a .first) || (eqb item (a .second) || (eqb item (a .third) || eqb item (a .fourth))) ≡ oneOf item (areasIn a)
-  unfolding areasIn oneOf any
-  has-four h =
-      rw (take-all (a .used) (a .first ∷ a .second ∷ a .third ∷ a .fourth ∷ []) h, ← or-false (eqb item (a .fourth)))

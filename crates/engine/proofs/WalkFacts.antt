@@ -1,7 +1,7 @@
 -- The walk's two loops in document 01's words: the search among the items, and a cell that is reached or not.
 -- What a search has still to look through decides; a reached cell's routine leaves the bytes that the rule gives.
 use mathlib.Core.Path.{_≡_, refl, sym, ap, _∙_}
-use mathlib.Core.Bool.{Bool, true, false, cond, _&&_, false≢true}
+use mathlib.Core.Bool.{true, false, _&&_, false≢true}
 use mathlib.Core.List.{List, [], _∷_, flatMap}
 use Prim.Native.Nat.{ℕ, _+_, _*_, _-_, _<_, _≤_}
 use native.Mathlib.Nat.{mul-assoc, mul-le-mul, zero-add}
@@ -9,14 +9,15 @@ use native.Mathlib.Omega.{arith}
 use borrow.Rule.Slice.PartMut.{putMid, midOf}
 use borrow.Author.Tests.{eqb-true}
 use lib.Dec.{eqb}
-use lib.ListN.{length, take, drop, length-drop, length-map}
+use lib.ListN.{length, take, drop, drop-of-length-le, length-drop, length-map}
 use lib.Seq.{sets, length-take-le}
-use Rattle.octets.specs.Runs.{Bytes}
+use Rattle.octets.specs.Runs.{gets, Bytes}
+use Rattle.octets.specs.Numbers.{be}
 use Rattle.octets.proofs.RunsLaws.{bytes-drop}
 use Rattle.rules.specs.Lists.{any, oneOf, zeros}
 use Rattle.rules.specs.Layout.{current, headerSize, headSize, cellSize, recordSize, itemSize, answerSize, rowSize, placesPerCell, mostCells}
-use Rattle.rules.specs.Table.{headOf, cellOf, legalCell, cellCount, cellRuns}
-use Rattle.rules.specs.Record.{noArea, oneSecond, requestOf, itemsOf, identifierToSib, row, kindAllows}
+use Rattle.rules.specs.Table.{cellOf, legalCell, cellCount, cellRuns}
+use Rattle.rules.specs.Record.{noArea, oneSecond, requestOf, itemsOf, identifierToSib, row, kindAllows, areaFits}
 use Rattle.rules.specs.Reach.{names, reaches}
 use Rattle.rules.specs.InCell.{inCell}
 use Rattle.rules.specs.Answer.{rowBytes, rowsPerCell, roomFor}
@@ -29,12 +30,14 @@ use Rattle.rules.proofs.VerdictLaws.{request-accepted}
 use Rattle.rules.proofs.CellCodec.{legal-cell}
 use Rattle.rules.proofs.TableCodec.{table-accepted}
 use Rattle.rules.proofs.StepLaws.{step-reached, rows-reached, rows-unreached}
+use Rattle.rules.proofs.RecordCodec.{length-itemsOf}
 use Rattle.rules.proofs.RecordTrips.{record-accepted}
 use Rattle.rules.proofs.AppliedLaws.{call-accepted}
 use Rattle.cell.specs.Places.{livePlaces, withPlaces}
 use Rattle.cell.proofs.PlacesLaws.{withPlaces-cell}
 use Rattle.routines.specs.Step.{rowsBytes, Ready, Stepped}
-use Rattle.engine.specs.Reach.{namedBy}
+use Rattle.record.proofs.Items.{items-read-next}
+use Rattle.engine.specs.Reach.{namedBy, KeysOf}
 use Rattle.engine.specs.declared.reach.Naming.{Naming}
 use Rattle.engine.specs.Walk.{rowsAfter, tableAfter, WalkIn, SecondIn}
 use Rattle.engine.proofs.Walking.{Going, cell-long, cell-bytes, cell-legal, room-here, skip, step-cell}
@@ -149,19 +152,29 @@ pub items-span : (t : List ℕ) (cells : ℕ) (r : List ℕ) (items : ℕ) (q : 
 items-span t cells r items q new a w =
     rw (w .all-items) (sym (record-accepted current r (call-accepted current t r (length a) (w .accepted) .req) .size))
 
--- as many of them are there as are looked through
-pub search-span : (t : List ℕ) (cells : ℕ) (r : List ℕ) (items : ℕ) (q : Request) (new a : List ℕ) → WalkIn t cells r items q new a → (b : Bool) (todo : ℕ) → todo ≡ cond b 0 items
-    → recordSize + itemSize * todo ≤ length r
-search-span t cells r items q new a w b todo e =
-    let span = items-span t cells r items q new a w in
-    rw e (cond-either (λ (n : ℕ). recordSize + itemSize * n ≤ length r) b 0 items (λ _. omega (arith, span)) (λ _. omega (arith, span)))
+module _ (t : List ℕ) (cells : ℕ) (r : List ℕ) (items : ℕ) (q : Request) (new a : List ℕ) (w : WalkIn t cells r items q new a) where
+  -- area 0 exactly when there are none
+  pub no-items : eqb (q .area) noArea ≡ true → itemsOf r ≡ []
+  unfolding areaFits
+  no-items e =
+      let fine = record-accepted current r (call-accepted current t r (length a) (w .accepted) .req) in
+      let area = request-accepted _ (requestOf r) (itemsOf r) (fine .request) .area in
+      let none : eqb (requestOf r .area) noArea ≡ true = rw (← w .request) e in
+      drop-of-length-le (itemsOf r) {i = 0} (omega (arith, eqb-true (length (itemsOf r)) 0 (rw none at area)))
+
+  -- the item that the search stands at
+  pub next-item : (k : ℕ) → k < items → drop k (itemsOf r) ≡ be (gets r (recordSize + itemSize * k) itemSize) ∷ drop (k + 1) (itemsOf r)
+  next-item k h =
+      items-read-next r (call-accepted current t r (length a) (w .accepted) .req) k (rw (← w .all-items) h)
+
+  pub all-looked : (k : ℕ) → items ≤ k → length (itemsOf r) ≤ k
+  all-looked k h = rw (length-itemsOf r, ← w .all-items) h
 
 -- what names the cell that was lent
-pub named-here : (t : List ℕ) (at k area : ℕ) (s : Naming) → k ≡ cellSize current
-    → ((x : ℕ) → namedBy s x ≡ cond (eqb area noArea) false (names area (headOf (take headSize (midOf at k t))) x))
+pub named-here : (t : List ℕ) (at k area : ℕ) (s : Naming) → k ≡ cellSize current → KeysOf area (take headSize (midOf at k t)) s
     → (x : ℕ) → eqb area noArea ≡ false → namedBy s x ≡ names area (cellOf current (take (cellSize current) (drop at t)) .head) x
 unfolding cellOf
-named-here t at k area s ek h x e = h x ∙ rw (e, ek)
+named-here t at k area s ek h x e = h .meant x ∙ rw (e, ek)
 
 -- ---- a second
 

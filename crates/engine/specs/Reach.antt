@@ -1,27 +1,47 @@
--- What a cell is named by, read once for each cell before the items are looked through.
-use mathlib.Core.Bool.{Bool, false, cond, _||_}
-use mathlib.Core.List.{List, map}
+-- What names a cell, read once for each cell before the items are looked through.
+use mathlib.Core.Path.{_≡_}
+use mathlib.Core.Bool.{Bool, false, cond}
+use mathlib.Core.List.{List, [], _∷_}
 use Prim.Native.Nat.{ℕ}
 use lib.Dec.{eqb}
-use lib.ListN.{drop}
-use Rattle.octets.specs.Runs.{pieces}
-use Rattle.octets.specs.Numbers.{be}
+use lib.ListN.{take, getD}
 use Rattle.octets.specs.Turned.{turned}
-use Rattle.rules.specs.Layout.{itemSize}
+use Rattle.rules.specs.Lists.{oneOf}
+use Rattle.rules.specs.Identity.{trackingItem}
+use Rattle.rules.specs.Table.{headOf, areasUsed, allAreas}
+use Rattle.rules.specs.Record.{noArea, cellArea, trackingArea}
+use Rattle.rules.specs.Reach.{names}
 use Rattle.engine.specs.declared.reach.Naming.{Naming}
 
--- whether an item is one of the keys, if there are any: one, two, or four of which some may repeat
-unfoldable pub byKeys : Naming → ℕ → Bool
-byKeys s item =
-    eqb item (turned 8 (s .first))
-    || cond (eqb (s .keys) 1) false
-    (eqb item (turned 8 (s .second))
-    || cond (eqb (s .keys) 2) false (eqb item (turned 8 (s .third)) || eqb item (turned 8 (s .fourth))))
+-- the keys in use, each turned back
+unfoldable pub keysIn : Naming → List ℕ
+keysIn s =
+    take (s .keys) (turned 8 (s .first) ∷ turned 8 (s .second) ∷ turned 8 (s .third) ∷ turned 8 (s .fourth) ∷ [])
 
--- whether an item names the cell
+-- whether an item is one of them
 unfoldable pub namedBy : Naming → ℕ → Bool
-namedBy s item = cond (eqb (s .keys) 0) false (byKeys s item)
+namedBy s item = oneOf item (keysIn s)
 
--- the items that a search has still to look through
-abbrev pub itemsFrom : ℕ → ℕ → List ℕ → List ℕ
-itemsFrom from todo r = map be (pieces itemSize todo (drop from r))
+-- n keys in use, each turned as an item lies in its record; 0 where none is given
+unfoldable pub turnedKeys : ℕ → List ℕ → Naming
+turnedKeys n keys =
+    record {
+      keys = n;
+      first = turned 8 (getD keys 0 0);
+      second = turned 8 (getD keys 1 0);
+      third = turned 8 (getD keys 2 0);
+      fourth = turned 8 (getD keys 3 0);
+    }
+
+-- by the area's kind, out of the bytes of a head: its NR CGI, its tracking area as an item, its emergency areas in use; no key without an area
+unfoldable pub namingOf : ℕ → List ℕ → Naming
+namingOf area b =
+    cond (eqb area noArea) (turnedKeys 0 [])
+    (cond (eqb area cellArea) (turnedKeys 1 (headOf b .identity ∷ []))
+    (cond (eqb area trackingArea) (turnedKeys 1 (trackingItem (headOf b .identity) (headOf b .code) ∷ []))
+    (turnedKeys (areasUsed b) (allAreas b))))
+
+pub record KeysOf (area : ℕ) (b : List ℕ) (s : Naming) : Type 0 where
+  pub keys : s ≡ namingOf area b
+  -- which follows
+  pub meant : (x : ℕ) → namedBy s x ≡ cond (eqb area noArea) false (names area (headOf b) x)

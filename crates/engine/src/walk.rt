@@ -1,10 +1,8 @@
 // The walk: cells around items, for every kind.
 ghost use Rattle.rules.specs.Record.{requestOf};
 ghost use Rattle.engine.specs.Walk.{WalkIn, SecondIn, WalkOut};
-use crate::reach::among_four;
+use crate::reach::named;
 use crate::reach::naming_of;
-use crate::reach::reached_at_last;
-use crate::reach::to_search;
 use routines::second::second_in_cell;
 use routines::step::step_cell;
 use rules::Request;
@@ -17,8 +15,8 @@ use rules::layout::ITEM;
 use rules::layout::RECORD;
 use rules::layout::ROW;
 
-// Only the bytes of a reached cell are lent on. Without an area there are no items, and every cell is reached. The search goes by four
-// items, in their order, and the last one to three follow.
+// Only the bytes of a reached cell are lent on. Without an area there are no items, and every cell is reached. What was looked at is
+// where the search stands: it leaves with the items up to and including the first match, or all of them.
 pub fn walk(
     table: &mut [u8],
     cells: usize,
@@ -45,17 +43,16 @@ pub fn walk(
         left -= 1;
         let naming = naming_of(&table[start..at], area);
         let mut reached = area == NO_AREA;
-        let mut from = RECORD;
-        let mut todo = to_search(naming, items);
-        'items: while 3 < todo {
-            if among_four(naming, req, from) {
+        let mut looked: usize = 0;
+        'items: while looked < items {
+            let from = RECORD + ITEM * looked;
+            looked += 1;
+            if named(naming, req, from) {
                 reached = true;
                 break 'items;
             }
-            from += 4 * ITEM;
-            todo -= 4;
         }
-        if reached_at_last(reached, naming, req, from, todo) {
+        if reached {
             let n = step_cell(&mut table[start..at], request, new, &mut answer[out..]);
             if 0 < n {
                 out += ROW * n;

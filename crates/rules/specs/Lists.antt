@@ -1,7 +1,7 @@
 -- Words for lists that document 01's sentences use.
 use mathlib.Core.Bool.{Bool, true, false, cond, _&&_, _||_}
 use mathlib.Core.List.{List, [], _∷_, flatMap}
-use Prim.Native.Nat.{ℕ}
+use Prim.Native.Nat.{ℕ, _+_}
 use lib.Dec.{eqb, ltb}
 
 unfoldable pub every : {A : Type 0} → (A → Bool) → List A → Bool
@@ -11,6 +11,11 @@ every f (x ∷ xs) = f x && every f xs
 unfoldable pub any : {A : Type 0} → (A → Bool) → List A → Bool
 any f [] = false
 any f (x ∷ xs) = f x || any f xs
+
+-- how many there are up to and including the first that f holds of, or all without one
+unfoldable pub upTo : {A : Type 0} → (A → Bool) → List A → ℕ
+upTo f [] = 0
+upTo f (x ∷ xs) = 1 + cond (f x) 0 (upTo f xs)
 
 -- those that f holds of, in order
 unfoldable pub those : {A : Type 0} → (A → Bool) → List A → List A

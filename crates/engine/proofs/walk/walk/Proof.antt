@@ -1,42 +1,34 @@
 -- The walk leaves the table cell by cell and the rows as the rules give them.
--- Between two cells: what is done, with what the rules say of the cells still to come, is the goal (Walking); between two runs of four items: the items still to come decide.
+-- Between two cells: what is done, with what the rules say of the cells still to come, is the goal (Walking); between two items: those still to come decide, and as many were looked at as lie before (Searching).
 use Prim.Native.Nat.{_+_, _*_, _-_, _≤_}
-use mathlib.Core.Bool.{Bool, true, false, cond, false≢true}
 use mathlib.Core.List.{flatMap}
 use mathlib.Core.Path.{_≡_, refl, sym, ap, _∙_}
 use mathlib.Core.Logic.{⊎-elim}
 use native.Mathlib.Omega.{arith}
 use borrow.Author.Needs.{needs}
-use lib.Dec.{eqb}
 use lib.ListN.{length, take, drop}
 use lib.Seq.{sets}
-use Rattle.rules.specs.Lists.{any}
-use Rattle.rules.specs.Layout.{current, cellSize, itemSize, answerSize, placesPerCell, mostCells}
-use Rattle.rules.specs.Table.{cellOf, cellRuns}
+use Rattle.rules.specs.Layout.{current, cellSize, recordSize, itemSize, answerSize, placesPerCell, mostCells}
+use Rattle.rules.specs.Table.{Head, cellOf, cellRuns}
 use Rattle.rules.specs.Record.{itemsOf}
-use Rattle.rules.specs.Reach.{reaches}
 use Rattle.rules.specs.declared.Request.{Request}
 use Rattle.rules.specs.Answer.{rowBytes}
 use Rattle.engine.specs.Walk.{rowsAfter, tableAfter}
-use Rattle.engine.specs.Reach.{byKeys, itemsFrom}
-use Rattle.engine.proofs.Searching.{search-hit, search-miss, search-start}
-use Rattle.engine.proofs.WalkFacts.{search-span, named-here, few-rows, GoingOn, begin, asked, passed, stepped, stepped-silent}
+use Rattle.engine.specs.Reach.{namedBy}
+use Rattle.engine.proofs.Searching.{Searching, Searched, search-start, search-miss, search-hit, search-end}
+use Rattle.engine.proofs.WalkFacts.{items-span, no-items, next-item, all-looked, named-here, few-rows, GoingOn, begin, asked, passed, stepped, stepped-silent}
 use Rattle.engine.proofs.Walking.{cell-long, few-here, over-table, over-count, over-answer}
 use Rattle.engine.proofs.walk.walk.Statement.{statement}
 use Rattle.engine.proofs.walk.walk.Tie as tie
 
-cond-true : (b : Bool) → cond b true true ≡ true
-cond-true true = refl
-cond-true false = refl
-
 abbrev Inv-items : tie.InvT-items
-Inv-items table cells req items request new answer area at out rows left start naming reached₀ from₀ todo₀ reached from todo =
-    (from + itemSize * todo ≤ length req)
-    × (reaches area (itemsOf req) (cellOf current (take (cellSize current) (drop start table)) .head) ≡ cond reached true (any (byKeys naming) (itemsFrom from todo req)))
+Inv-items table cells req items request new answer area at out rows left start naming reached₀ looked₀ reached looked =
+    (recordSize + itemSize * items ≡ length req)
+    × Searching area (itemsOf req) (cellOf current (take (cellSize current) (drop start table)) .head) (namedBy naming) reached looked
 
 abbrev μ-items : tie.MeasureT-items
-μ-items table cells req items request new answer area at out rows left start naming reached₀ from₀ todo₀ reached from todo =
-    todo
+μ-items table cells req items request new answer area at out rows left start naming reached₀ looked₀ reached looked =
+    items - looked
 
 abbrev Inv-cells : tie.InvT-cells
 Inv-cells table₀ cells req items request new answer₀ area at₀ out₀ rows₀ left₀ table answer at out rows left =
@@ -47,6 +39,28 @@ Inv-cells table₀ cells req items request new answer₀ area at₀ out₀ rows�
 abbrev μ-cells : tie.MeasureT-cells
 μ-cells table₀ cells req items request new answer₀ area at₀ out₀ rows₀ left₀ table answer at out rows left =
     left
+
+-- the stages of a turn: the call, the cell at hand, the search in it
+abbrev Called : Type 0
+Called = tie.Start Inv-items μ-items Inv-cells μ-cells
+
+abbrev AtCell : Type 0
+AtCell = tie.In-cells Inv-items μ-items Inv-cells μ-cells
+
+abbrev InSearch : Type 0
+InSearch = tie.At-items Inv-items μ-items Inv-cells μ-cells
+
+abbrev AfterSearch : Type 0
+AfterSearch = tie.Left-items Inv-items μ-items Inv-cells μ-cells
+
+abbrev called : AtCell → Called
+called c = c .before .before .before .before .before .before .before .before
+
+abbrev cell-at : InSearch → AtCell
+cell-at c = c .before .before .before .before
+
+abbrev head-at : AtCell → Head
+head-at c = cellOf current (take (cellSize current) (drop (c .before .cells .at) (c .before .cells .table))) .head
 
 seconds-requires : tie.Need-seconds-requires Inv-items μ-items Inv-cells μ-cells
 seconds-requires c κs =
@@ -92,21 +106,15 @@ naming-of-requires c κs =
     let k : l .at + cellSize current - l .at ≡ cellSize current = omega arith in
     rw k (cell-long _ _ _ _ _ _ _ _ _ _ _ _ _ _ _ (l .inv) (c .before .before .cells-test .taken))
 
-to-search-requires : tie.Need-to-search-requires Inv-items μ-items Inv-cells μ-cells
-to-search-requires c κs = search needs
-
 items-holds : tie.Need-items-holds Inv-items μ-items Inv-cells μ-cells
 items-holds c =
-    let p = c .before .before .before .before .before .before .before .before .before .before .before .before in
-    let l = c .before .before .before .before .before .cells in
+    let at : AtCell = c .before .before .before in
+    let p = called at in
+    let l = at .before .cells in
     let k : l .at + cellSize current - l .at ≡ cellSize current = omega arith in (
-      search-span _ _ _ _ _ _ _ (p .pre) (eqb (c .before .naming-of .result .keys) 0) _ (c .to-search .ensures),
-      search-start (p .args .request .area) (p .args .req .now) (p .args .items) (c .to-search .result) (take (cellSize current) (drop (l .at) (l .table))) (c .before .naming-of .result) (p .pre .all-items) (c .to-search .ensures)
-          (named-here (l .table) (l .at) (l .at + cellSize current - l .at) (p .args .request .area) (c .before .naming-of .result) k (c .before .naming-of .ensures)),
+      items-span _ _ _ _ _ _ _ (p .pre),
+      search-start (p .args .request .area) (itemsOf (p .args .req .now)) (head-at at) (namedBy (c .naming-of .result)) (named-here (l .table) (l .at) (l .at + cellSize current - l .at) (p .args .request .area) (c .naming-of .result) k (c .naming-of .ensures)) (no-items _ _ _ _ _ _ _ (p .pre)),
     )
-
-among-four-requires : tie.Need-among-four-requires Inv-items μ-items Inv-cells μ-cells
-among-four-requires c κs = omega arith
 
 mul-from : tie.Need-mul-from Inv-items μ-items Inv-cells μ-cells
 mul-from c = omega arith
@@ -114,42 +122,32 @@ mul-from c = omega arith
 add-from : tie.Need-add-from Inv-items μ-items Inv-cells μ-cells
 add-from c = omega arith
 
-sub-todo : tie.Need-sub-todo Inv-items μ-items Inv-cells μ-cells
-sub-todo c = omega arith
+add-looked : tie.Need-add-looked Inv-items μ-items Inv-cells μ-cells
+add-looked c = omega arith
+
+named-requires : tie.Need-named-requires Inv-items μ-items Inv-cells μ-cells
+named-requires c κs = omega arith
 
 items-less : tie.Need-items-less Inv-items μ-items Inv-cells μ-cells
 items-less c = omega arith
 
 items-again : tie.Need-items-again Inv-items μ-items Inv-cells μ-cells
 items-again c =
-    let i = c .before .before .before .items in
-    let p = c .before .before .before .before .before .before .before .before .before .before .before .before .before .before .before .before in (
-      omega arith,
-      i .inv .1
-          ∙ ap (cond (i .reached) true)
-          (search-miss (byKeys (c .before .before .before .before .before .naming-of .result)) (p .args .req .now) (i .from) (i .todo) (c .before .before .items-test .taken) (i .inv .0) (sym (c .before .among-four .ensures) ∙ c .if2 .left)),
-    )
+    let s : InSearch = c .before .before .before in
+    let p = called (cell-at s) in
+    let i = s .items in
+    (i .inv .0, search-miss _ _ _ _ _ (i .looked) (i .inv .1) _ (next-item _ _ _ _ _ _ _ (p .pre) (i .looked) (omega (arith, c .before .before .items-test .taken))) (sym (c .before .named .ensures) ∙ c .if2 .left))
 
-reached-at-last-requires : tie.Need-reached-at-last-requires Inv-items μ-items Inv-cells μ-cells
-reached-at-last-requires c κs =
-    (c .before .items .inv .0, λ e. ⊎-elim (λ w. omega (arith, w .0 .left)) (λ w. absurd (false≢true (sym e ∙ w .3))) (c .items-test .came))
-
--- whether the cell is reached, where the search has ended
-found : (c : tie.After-reached-at-last Inv-items μ-items Inv-cells μ-cells)
-    → reaches (c .before .before .before .before .before .before .before .before .before .before .before .before .before .before .before .args .request .area) (itemsOf (c .before .before .before .before .before .before .before .before .before .before .before .before .before .before .before .args .req .now)) (cellOf current (take (cellSize current) (drop (c .before .before .before .before .before .before .before .before .cells .at) (c .before .before .before .before .before .before .before .before .cells .table))) .head) ≡ c .reached-at-last .result
+-- where the search has ended: whether the cell is reached, and how many items were looked at
+found : (c : AfterSearch)
+    → Searched (called (cell-at (c .before)) .args .request .area) (itemsOf (called (cell-at (c .before)) .args .req .now)) (head-at (cell-at (c .before))) (c .items-test .reached) (c .items-test .looked)
 found c =
-    let i = c .before .before .items in
-    let p = c .before .before .before .before .before .before .before .before .before .before .before .before .before .before .before in
-    let by = byKeys (c .before .before .before .before .naming-of .result) in
-    let rest = any by (itemsFrom (i .from) (i .todo) (p .args .req .now)) in
+    let p = called (cell-at (c .before)) in
+    let i = c .before .items in
     ⊎-elim
-    (λ w. i .inv .1 ∙ ap (λ (b : Bool). cond b true rest) (sym (w .1)) ∙ sym (c .reached-at-last .ensures))
-    (λ w.
-    i .inv .1
-    ∙ ap (cond (i .reached) true) (search-hit by (p .args .req .now) (i .from) (i .todo) (w .0 .taken) (i .inv .0) (sym (w .1 .ensures) ∙ w .2 .taken))
-    ∙ cond-true (i .reached)
-    ∙ sym (c .reached-at-last .ensures ∙ ap (λ (b : Bool). cond b true rest) (w .3)))
-    (c .before .items-test .came)
+    (λ w. rw (w .1, w .2) (search-end _ _ _ _ _ (i .looked) (i .inv .1) (all-looked _ _ _ _ _ _ _ (p .pre) (i .looked) (w .0 .left))))
+    (λ w. rw (w .3, w .4) (search-hit _ _ _ _ _ (i .looked) (i .inv .1) _ (next-item _ _ _ _ _ _ _ (p .pre) (i .looked) (omega (arith, w .0 .taken))) (sym (w .1 .ensures) ∙ w .2 .taken)))
+    (c .items-test .came)
 
 sub-step-cell : tie.Need-sub-step-cell Inv-items μ-items Inv-cells μ-cells
 sub-step-cell c = omega arith
@@ -171,52 +169,69 @@ part-step-cell-end-2 c = omega arith
 
 step-cell-requires : tie.Need-step-cell-requires Inv-items μ-items Inv-cells μ-cells
 step-cell-requires c κs =
-    let l = c .before .before .before .before .before .before .before .before .before .before .before .cells in
+    let at : AtCell = cell-at (c .before .before .before .before) in
+    let l = at .before .cells in
     let k : l .at + cellSize current - l .at ≡ cellSize current = omega arith in
-    (asked _ _ _ _ _ _ _ _ _ _ _ _ _ _ (l .inv) (c .before .before .before .before .before .before .before .before .before .before .cells-test .taken) (l .at + cellSize current - l .at) (length (l .answer) - l .out) k refl, (c .before .before .before .before .before .before .before .before .before .before .before .before .before .before .before .before .before .before .pre .to-step, c .before .before .before .before .before .before .before .before .before .before .before .before .if1 .left))
+    (asked _ _ _ _ _ _ _ _ _ _ _ _ _ _ (l .inv) (at .cells-test .taken) (l .at + cellSize current - l .at) (length (l .answer) - l .out) k refl, (called at .pre .to-step, at .before .before .if1 .left))
+
+-- a row was told
+abbrev AfterStep : Type 0
+AfterStep = tie.After-step-cell Inv-items μ-items Inv-cells μ-cells
+
+abbrev stepped-at : AfterStep → AtCell
+stepped-at c = cell-at (c .before .before .before .before .before)
 
 mul-out : tie.Need-mul-out Inv-items μ-items Inv-cells μ-cells
-mul-out c = omega (arith, c .before .before .before .before .before .step-cell .ensures .few, few-rows (c .before .before .before .before .before .before .before .before .before .before .before .before .before .before .before .before .before .before .before .before .before .before .before .before .args .request .kind))
+mul-out c =
+    let s : AfterStep = c .before .before .before .before .before in
+    omega (arith, s .step-cell .ensures .few, few-rows (called (stepped-at s) .args .request .kind))
+
+-- so many rows have room
+room-for : (s : AfterStep) → s .step-cell .result + stepped-at s .before .cells .rows ≤ placesPerCell * mostCells
+room-for s =
+    let at = stepped-at s in
+    let l = at .before .cells in
+    omega (arith, s .step-cell .ensures .few, few-here _ _ _ _ _ _ _ _ _ _ _ _ _ _ _ (l .inv) (at .cells-test .taken))
 
 add-out : tie.Need-add-out Inv-items μ-items Inv-cells μ-cells
 add-out c =
-    let l = c .before .before .before .before .before .before .before .before .before .before .before .before .before .before .before .before .before .cells in
-    omega (arith, c .before .before .before .before .before .step-cell .ensures .few, l .inv .place, few-here _ _ _ _ _ _ _ _ _ _ _ _ _ _ _ (l .inv) (c .before .before .before .before .before .before .before .before .before .before .before .before .before .before .before .before .cells-test .taken))
+    let s : AfterStep = c .before .before .before .before .before in
+    omega (arith, room-for s, stepped-at s .before .cells .inv .place)
 
 add-rows : tie.Need-add-rows Inv-items μ-items Inv-cells μ-cells
-add-rows c =
-    let l = c .before .before .before .before .before .before .before .before .before .before .before .before .before .before .before .before .before .cells in
-    omega (arith, c .before .before .before .before .before .step-cell .ensures .few, few-here _ _ _ _ _ _ _ _ _ _ _ _ _ _ _ (l .inv) (c .before .before .before .before .before .before .before .before .before .before .before .before .before .before .before .before .cells-test .taken))
+add-rows c = omega (arith, room-for (c .before .before .before .before .before))
 
 cells-less : tie.Need-cells-less Inv-items μ-items Inv-cells μ-cells
 cells-less c = omega arith
 
 cells-again : tie.Need-cells-again Inv-items μ-items Inv-cells μ-cells
 cells-again c =
-    let l = c .before .before .before .before .before .before .before .before .before .before .before .before .before .before .before .before .before .cells in
-    let s = c .before .before .before .before .before .step-cell in
+    let s : AfterStep = c .before .before .before .before .before in
+    let at = stepped-at s in
+    let l = at .before .cells in
     let k : l .at + cellSize current - l .at ≡ cellSize current = omega arith in
-    stepped _ _ _ _ _ _ _ _ _ _ _ _ _ _ (l .inv) (c .before .before .before .before .before .before .before .before .before .before .before .before .before .before .before .before .cells-test .taken) (found (c .before .before .before .before .before .before .before .before .before) ∙ c .before .before .before .before .before .before .before .before .if3 .taken) (l .at + cellSize current - l .at) (length (l .answer) - l .out) k refl
-    (s .last .0) (s .last .1 .1 .1 .0) (s .result) (s .ensures) (s .kept .0)
+    stepped _ _ _ _ _ _ _ _ _ _ _ _ _ _ (l .inv) (at .cells-test .taken) (found (s .before .before .before .before) .reached ∙ s .before .before .before .if3 .taken) (l .at + cellSize current - l .at) (length (l .answer) - l .out) k refl
+    (s .step-cell .last .0) (s .step-cell .last .1 .1 .1 .0) (s .step-cell .result) (s .step-cell .ensures) (s .step-cell .kept .0)
 
 cells-less-2 : tie.Need-cells-less-2 Inv-items μ-items Inv-cells μ-cells
 cells-less-2 c = omega arith
 
 cells-again-2 : tie.Need-cells-again-2 Inv-items μ-items Inv-cells μ-cells
 cells-again-2 c =
-    let l = c .before .before .before .before .before .before .before .before .before .before .before .before .before .before .before .before .before .cells in
-    let s = c .before .before .before .before .before .step-cell in
+    let s : AfterStep = c .before .before .before .before .before in
+    let at = stepped-at s in
+    let l = at .before .cells in
     let k : l .at + cellSize current - l .at ≡ cellSize current = omega arith in
-    stepped-silent _ _ _ _ _ _ _ _ _ _ _ _ _ _ (l .inv) (c .before .before .before .before .before .before .before .before .before .before .before .before .before .before .before .before .cells-test .taken) (found (c .before .before .before .before .before .before .before .before .before) ∙ c .before .before .before .before .before .before .before .before .if3 .taken) (l .at + cellSize current - l .at) (length (l .answer) - l .out) k refl
-    (s .last .0) (s .last .1 .1 .1 .0) (s .result) (s .ensures) (s .kept .0) (c .if4 .left)
+    stepped-silent _ _ _ _ _ _ _ _ _ _ _ _ _ _ (l .inv) (at .cells-test .taken) (found (s .before .before .before .before) .reached ∙ s .before .before .before .if3 .taken) (l .at + cellSize current - l .at) (length (l .answer) - l .out) k refl
+    (s .step-cell .last .0) (s .step-cell .last .1 .1 .1 .0) (s .step-cell .result) (s .step-cell .ensures) (s .step-cell .kept .0) (c .if4 .left)
 
 cells-less-3 : tie.Need-cells-less-3 Inv-items μ-items Inv-cells μ-cells
 cells-less-3 c = omega arith
 
 cells-again-3 : tie.Need-cells-again-3 Inv-items μ-items Inv-cells μ-cells
 cells-again-3 c =
-    let l = c .before .before .before .before .before .before .before .before .before .cells in
-    passed _ _ _ _ _ _ _ _ _ _ _ _ _ _ (l .inv) (c .before .before .before .before .before .before .before .before .cells-test .taken) (found (c .before) ∙ c .if3 .left)
+    let at : AtCell = cell-at (c .before .before) in
+    passed _ _ _ _ _ _ _ _ _ _ _ _ _ _ (at .before .cells .inv) (at .cells-test .taken) (found (c .before) .reached ∙ c .if3 .left)
 
 same-length-3 : tie.Need-same-length-3 Inv-items μ-items Inv-cells μ-cells
 same-length-3 c = c .before .cells .inv .same-t
@@ -253,15 +268,13 @@ walk-spec =
     part-naming-of-start
     part-naming-of-end
     naming-of-requires
-    to-search-requires
     items-holds
-    among-four-requires
     mul-from
     add-from
-    sub-todo
+    add-looked
+    named-requires
     items-less
     items-again
-    reached-at-last-requires
     sub-step-cell
     part-step-cell-start
     part-step-cell-end
