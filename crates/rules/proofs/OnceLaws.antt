@@ -6,8 +6,7 @@ use Prim.Native.Nat.{ℕ}
 use native.Mathlib.Omega.{arith}
 use lib.ListN.{getD}
 use Rattle.rules.specs.Refusals.{numberOf, answerNumber, answerLength}
-use Rattle.rules.specs.Applied.{Filled, ReadOutcome, filledBy, readBy}
-use Rattle.rules.specs.declared.Request.{Request}
+use Rattle.rules.specs.Applied.{Filled, ReadOutcome, Outcome, filledBy, readBy, outcomeBy}
 use Rattle.rules.specs.declared.Refusal.{Refusal}
 use Rattle.rules.specs.declared.Refusal.the-variants.{TableMark, TableWrong, RecordMark, RecordLength, RecordFields, RecordLimits, CancelsNothing, ShortBuffer, BadHeads, ListDamaged, TooManySegments, NoSuchSegment}
 use Rattle.rules.specs.declared.Answer.{Answer}
@@ -49,6 +48,11 @@ answer-injective (Nothing x) (Nothing y) e l = ap Nothing (number-injective x y 
 pub filled-injective : (x y : Answer) (a b : List ℕ) → filledBy x a ≡ filledBy y b → (x ≡ y) × (a ≡ b)
 filled-injective x y a b e =
     (answer-injective x y (ap (λ (f : Filled). f .number) e) (ap (λ (f : Filled). f .length) e), ap (λ (f : Filled). f .buffer) e)
+
+-- an answer and the two buffers that it leaves
+pub outcome-injective : (x y : Answer) (t a u b : List ℕ) → outcomeBy x t a ≡ outcomeBy y u b → (x ≡ y) × (t ≡ u) × (a ≡ b)
+outcome-injective x y t a u b e =
+    (answer-injective x y (ap (λ (o : Outcome). o .number) e) (ap (λ (o : Outcome). o .length) e), ap (λ (o : Outcome). o .table) e, ap (λ (o : Outcome). o .answer) e)
 
 pub reading-injective : (x y : Reading) → readBy x ≡ readBy y → x ≡ y
 reading-injective (Fields p m) (Fields q n) e =
