@@ -14,7 +14,7 @@ use Rattle.octets.proofs.RunsLaws.{sets-front, take-sets-front}
 use Rattle.rules.specs.Lists.{every, any, zeros, oneOf}
 use Rattle.rules.specs.Layout.{field, version1, current, headerSize, cellSize}
 use Rattle.rules.specs.Table.{cellCount}
-use Rattle.rules.specs.Record.{oneSecond, requestOf, itemsOf, recordMarked, row, kindAllows, areaFits, withinLimits, cancelsNothing}
+use Rattle.rules.specs.Record.{oneSecond, requestOf, itemsOf, recordMarked, allowed, kindAllows, areaFits, withinLimits, cancelsNothing}
 use Rattle.rules.specs.Answer.{roomFor}
 use Rattle.rules.specs.Refusals.{tableVerdict, requestVerdict, recordVerdict, applyVerdict, convertVerdict}
 use Rattle.rules.specs.Applied.{Filled, Outcome, fill, converted, conversion, outcome, applied}
@@ -53,7 +53,7 @@ accepted-number t c e = rw e
 
 -- computed
 record-of-second : (recordVerdict version1 secondRecord ≡ Accepted) × (requestOf secondRecord .kind ≡ oneSecond)
-unfolding recordVerdict requestVerdict recordMarked requestOf itemsOf kindAllows areaFits withinLimits cancelsNothing row zeros oneOf any every field numbers be pieces
+unfolding recordVerdict requestVerdict recordMarked requestOf itemsOf kindAllows areaFits withinLimits cancelsNothing allowed zeros oneOf any every field numbers be pieces
 record-of-second = (refl, refl)
 
 -- version 1 accepts the record of a second, and so the call wherever there is room

@@ -7,7 +7,7 @@ use Prim.Native.Nat.{ℕ}
 use Rattle.octets.proofs.Once.{one-outcome}
 use Rattle.rules.specs.Layout.{current}
 use Rattle.rules.specs.Lists.{oneOf}
-use Rattle.rules.specs.Record.{areaFits, cancelsNothing, itemCount, itemEnd, notified, requestOf, withinLimits}
+use Rattle.rules.specs.Record.{anyArea, areaFits, cancelsNothing, itemCount, itemEnd, notified, requestOf, withinLimits}
 use Rattle.rules.specs.Refusals.{recordVerdict}
 use Rattle.rules.specs.Applied.{itemAt, readBy, readOf}
 use Rattle.rules.specs.declared.Reading.{Reading}
@@ -35,7 +35,7 @@ module _ (r : List ℕ) where
 
 -- ---- the tests of a request q, which the writer asks too
 
-pub any-area-once : (area : ℕ) {a b : Bool} → a ≡ oneOf area (0 ∷ 1 ∷ 2 ∷ 3 ∷ []) → b ≡ oneOf area (0 ∷ 1 ∷ 2 ∷ 3 ∷ []) → a ≡ b
+pub any-area-once : (area : ℕ) {a b : Bool} → a ≡ oneOf area anyArea → b ≡ oneOf area anyArea → a ≡ b
 any-area-once area = one-outcome
 
 pub cancel-flags-once : (flags : ℕ) {a b : Bool} → a ≡ oneOf flags (0 ∷ 2 ∷ 4 ∷ 6 ∷ []) → b ≡ oneOf flags (0 ∷ 2 ∷ 4 ∷ 6 ∷ []) → a ≡ b

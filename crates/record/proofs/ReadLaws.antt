@@ -1,7 +1,7 @@
 -- What the reader finds in bytes is what the rules say of them: fields at their offsets, items one after the other, and the order of 3 to 7.
 -- By the law of fields, by one item at a time, and by the tests that decide.
 use mathlib.Core.Path.{_≡_, refl, sym, _∙_}
-use mathlib.Core.Bool.{Bool, true, false, cond, not, _&&_, _||_, and-assoc, and-true}
+use mathlib.Core.Bool.{Bool, true, false, not, _&&_, _||_, and-assoc, and-true}
 use mathlib.Core.List.{List, [], _∷_, map}
 use Prim.Native.Nat.{ℕ, _+_, _*_, _≤_, _<_}
 use native.Mathlib.Omega.{arith}
@@ -14,7 +14,7 @@ use Rattle.octets.specs.Runs.{Bytes, gets, pieces}
 use Rattle.octets.specs.Numbers.{be}
 use Rattle.octets.specs.Fields.{offset}
 use Rattle.rules.specs.Layout.{current, field, recordFields, recordSize, itemSize, recordMark, mostItems}
-use Rattle.rules.specs.Record.{versionIn, takes, longestAsked, identifierToSib, notified, requestOf, itemsOf, itemCount, zeroByte, recordMarked}
+use Rattle.rules.specs.Record.{versionIn, takes, longestAsked, identifierToSib, cancelZeros, notified, requestOf, itemsOf, itemCount, zeroByte, recordMarked}
 use Rattle.rules.specs.Refusals.{requestVerdict, recordVerdict}
 use Rattle.rules.specs.Applied.{readBy, reading, readOf}
 use Rattle.rules.specs.declared.Request.{Request}
@@ -97,7 +97,7 @@ module _ (r : List ℕ) (h : recordSize ≤ length r) where
 
   -- those of a cancel; `named` says that flag 4 is there
   pub cancelled-zeros : {named : Bool} → named ≡ notified (requestOf r) → eqb (be (gets r 12 8)) 0 && eqb (be (gets r 22 1)) 0 && (named || eqb (be (gets r 8 4)) 0)
-      ≡ zeros (requestOf r .content ∷ requestOf r .period .0 ∷ requestOf r .sib ∷ cond (notified (requestOf r)) [] (requestOf r .identifier ∷ requestOf r .serial ∷ []))
+      ≡ zeros (cancelZeros (requestOf r))
   unfolding requestOf offset
   cancelled-zeros e =
       let f = record-field r h in

@@ -2,7 +2,7 @@
 ghost use mathlib.Core.Path.{_≡_};
 ghost use mathlib.Core.List.{[], _∷_};
 ghost use Rattle.rules.specs.Lists.{oneOf};
-ghost use Rattle.rules.specs.Record.{notified, areaFits, itemEnd, withinLimits, cancelsNothing};
+ghost use Rattle.rules.specs.Record.{anyArea, notified, areaFits, itemEnd, withinLimits, cancelsNothing};
 use rules::Request;
 use rules::kind::CANCEL_ALL;
 use rules::kind::CANCEL_OR_KILL;
@@ -21,7 +21,7 @@ use rules::layout::TRACKING_END;
 // ---- 5: flags, areas and zero fields by kind
 
 pub fn any_area(area: u8) -> bool
-    ensures { λ r. ⌜ r ≡ oneOf area (0 ∷ 1 ∷ 2 ∷ 3 ∷ []) ⌝ }
+    ensures { λ r. ⌜ r ≡ oneOf area anyArea ⌝ }
 {
     area <= EMERGENCY_AREAS
 }

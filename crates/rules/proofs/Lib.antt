@@ -8,6 +8,7 @@ pub mod RecordTrips
 pub mod OutcomeLaws
 pub mod RoundTrips
 pub mod SamplesHold
+pub mod KindAreaLaws
 pub mod VerdictLaws
 pub mod FitLaws
 pub mod PlaceLaws

@@ -15,7 +15,7 @@ use Rattle.octets.proofs.NumbersLaws.{length-toBe}
 use Rattle.octets.proofs.FieldsLaws.{length-bytesOf}
 use Rattle.rules.specs.Lists.{every}
 use Rattle.rules.specs.Layout.{Version, version1, version2, current, field, recordFields, recordSize, itemSize, recordMark, mostItems, longestPeriod, firstSib, lastSib}
-use Rattle.rules.specs.Record.{writeReplace, cellArea, trackingArea, versionIn, takes, longestAsked, requestOf, requestNumbers, recordBytes, itemsOf, itemCount, zeroByte, recordMarked, itemEnd, withinLimits}
+use Rattle.rules.specs.Record.{writeReplace, versionIn, takes, longestAsked, requestOf, requestNumbers, recordBytes, itemsOf, itemCount, zeroByte, recordMarked, itemEndIn, itemEnd, withinLimits}
 use Rattle.rules.specs.Refusals.{refuseUnless, _then_, requestVerdict, recordVerdict, writeVerdict}
 use Rattle.rules.specs.Sound.{fits, fitRequest}
 use Rattle.rules.specs.declared.Request.{Request}
@@ -25,6 +25,7 @@ use Rattle.rules.proofs.ListsLaws.{both, cond-either}
 use Rattle.rules.proofs.AllLaws.{All, all-every, all-imply}
 use Rattle.rules.proofs.FitLaws.{fits-Fit}
 use Rattle.rules.proofs.LayoutLaws.{record-size}
+use Rattle.rules.proofs.KindAreaLaws.{area-by}
 use Rattle.rules.proofs.VerdictLaws.{then-accepted, unless-accepted, request-accepted, allowed-longer}
 use Rattle.rules.proofs.RecordCodec.{field-again, request-again, items-again}
 
@@ -80,9 +81,7 @@ unfolding fitRequest fits requestNumbers
 fit-count q n h e = rw (lt-ltb n 65536 h) e
 
 item-end : (area : ℕ) → itemEnd area ≤ 2 ^ 60
-item-end area =
-    cond-either (λ x. x ≤ 2 ^ 60) (eqb area cellArea) _ _ (λ _. omega arith) λ _.
-    cond-either (λ x. x ≤ 2 ^ 60) (eqb area trackingArea) _ _ (λ _. omega arith) λ _. omega arith
+item-end area = area-by (λ a. itemEndIn a ≤ 2 ^ 60) area (λ _. omega arith) (λ _. omega arith) (λ _. omega arith) (λ _. omega arith) (omega arith)
 
 -- an item within its area's limit fits its 8 bytes
 items-fit : (longest : ℕ) (q : Request) (items : List ℕ) → withinLimits longest q items ≡ true → All (λ x. x < 256 ^ itemSize) items

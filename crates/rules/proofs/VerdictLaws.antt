@@ -1,23 +1,23 @@
 -- What an accepted verdict gives, and what gives one: tests in order, then the tests of a request.
 -- By the cases of the first verdict or test; each refusal would be a second value of the same verdict.
 use mathlib.Core.Path.{_≡_, refl}
-use mathlib.Core.Bool.{Bool, true, false, not, _&&_, _||_, false≢true}
+use mathlib.Core.Bool.{Bool, true, false, not, _&&_, _||_}
 use mathlib.Core.List.{List}
 use Prim.Native.Nat.{ℕ, _≤_}
 use native.Mathlib.Omega.{arith}
 use lib.Dec.{eqb, ltb, leb}
 use lib.ListN.{length}
-use borrow.Author.Tests.{eqb-true, not-true, leb-true, le-leb}
+use borrow.Author.Tests.{not-true, leb-true, le-leb}
 use Rattle.rules.specs.Lists.{every}
 use Rattle.rules.specs.Layout.{firstSib, lastSib}
-use Rattle.rules.specs.Record.{itemEnd, writeReplace, cancelOrKill, restartKind, failureKind, oneSecond, kindAllows, areaFits, withinLimits, cancelsNothing}
+use Rattle.rules.specs.Record.{itemEnd, writeReplace, kindAllows, areaFits, withinLimits, cancelsNothing}
 use Rattle.rules.specs.Refusals.{refuseUnless, _then_, requestVerdict}
 use Rattle.rules.specs.declared.Request.{Request}
 use Rattle.rules.specs.declared.Refusal.{Refusal}
 use Rattle.rules.specs.declared.Refusal.the-variants.{RecordFields, RecordLimits, CancelsNothing}
 use Rattle.rules.specs.declared.Verdict.{Verdict}
 use Rattle.rules.specs.declared.Verdict.the-variants.{Accepted, Refused}
-use Rattle.rules.proofs.ListsLaws.{both, by-test, or-else, else-or}
+use Rattle.rules.proofs.ListsLaws.{both, or-else, else-or}
 
 -- ---- tests in order
 
@@ -77,22 +77,3 @@ allowed-longer a b q items h e =
       limits = within-longer a b q items h (r .limits);
       some = r .some;
     })
-
--- ---- its kind
-
-pub data KnownKind (k : ℕ) : Type 0 where
-  starts : k ≡ writeReplace → KnownKind k
-  cancels : k ≡ cancelOrKill → KnownKind k
-  restarts : k ≡ restartKind → KnownKind k
-  fails : k ≡ failureKind → KnownKind k
-  passes : k ≡ oneSecond → KnownKind k
-
-pub kind-known : (q : Request) → kindAllows q ≡ true → KnownKind (q .kind)
-unfolding kindAllows
-kind-known q e =
-    by-test (eqb (q .kind) writeReplace) (λ a. starts (eqb-true (q .kind) writeReplace a)) λ a.
-    by-test (eqb (q .kind) cancelOrKill) (λ b. cancels (eqb-true (q .kind) cancelOrKill b)) λ b.
-    by-test (eqb (q .kind) restartKind) (λ c. restarts (eqb-true (q .kind) restartKind c)) λ c.
-    by-test (eqb (q .kind) failureKind) (λ d. fails (eqb-true (q .kind) failureKind d)) λ d.
-    by-test (eqb (q .kind) oneSecond) (λ g. passes (eqb-true (q .kind) oneSecond g)) λ g.
-    absurd (false≢true (rw (a, b, c, d, g) at e))

@@ -8,7 +8,7 @@ use lib.ListN.{length}
 use Rattle.rules.specs.Lists.{those}
 use Rattle.rules.specs.Layout.{placesPerCell, mostSent}
 use Rattle.rules.specs.Table.{isText, running}
-use Rattle.rules.specs.Record.{writeReplace, cancelOrKill, restartKind, failureKind, concurrent, cancelAll, isPrimary}
+use Rattle.rules.specs.Record.{Kind, aWriteReplace, aCancel, aRestart, aFailure, aSecond, unknownKind, kindOf, concurrent, cancelAll, isPrimary}
 use Rattle.rules.specs.ZeroRules.{zeroRulesStop}
 use Rattle.rules.specs.declared.Place.{Place}
 use Rattle.rules.specs.declared.Request.{Request}
@@ -120,8 +120,13 @@ second ps =
 
 -- ---- all kinds
 
+abbrev pub ruleOf : Kind → Request → List Place → Done
+ruleOf aWriteReplace q ps = start q ps
+ruleOf aCancel q ps = cancel q ps
+ruleOf aRestart q ps = restart ps
+ruleOf aFailure q ps = failure ps
+ruleOf aSecond q ps = second ps
+ruleOf unknownKind q ps = done ps []
+
 unfoldable pub inCell : Request → List Place → Done
-inCell q ps =
-    cond (eqb (q .kind) writeReplace) (start q ps)
-    (cond (eqb (q .kind) cancelOrKill) (cancel q ps)
-    (cond (eqb (q .kind) restartKind) (restart ps) (cond (eqb (q .kind) failureKind) (failure ps) (second ps))))
+inCell q ps = ruleOf (kindOf (q .kind)) q ps

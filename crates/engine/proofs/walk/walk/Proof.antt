@@ -17,10 +17,11 @@ use Rattle.rules.specs.Record.{itemsOf}
 use Rattle.rules.specs.Reach.{reaches}
 use Rattle.rules.specs.declared.Request.{Request}
 use Rattle.rules.specs.Answer.{rowBytes}
+use Rattle.rules.proofs.KindAreaLaws.{rows-most}
 use Rattle.engine.specs.Walk.{rowsAfter, tableAfter}
 use Rattle.engine.specs.Reach.{byKeys, itemsFrom}
 use Rattle.engine.proofs.Searching.{search-hit, search-miss, search-start}
-use Rattle.engine.proofs.WalkFacts.{search-span, named-here, few-rows, GoingOn, begin, asked, passed, stepped, stepped-silent}
+use Rattle.engine.proofs.WalkFacts.{search-span, area-here, named-here, GoingOn, begin, asked, passed, stepped, stepped-silent}
 use Rattle.engine.proofs.Walking.{cell-long, few-here, over-table, over-count, over-answer}
 use Rattle.engine.proofs.walk.walk.Statement.{statement}
 use Rattle.engine.proofs.walk.walk.Tie as tie
@@ -90,7 +91,7 @@ naming-of-requires : tie.Need-naming-of-requires Inv-items μ-items Inv-cells μ
 naming-of-requires c κs =
     let l = c .before .before .before .cells in
     let k : l .at + cellSize current - l .at ≡ cellSize current = omega arith in
-    rw k (cell-long _ _ _ _ _ _ _ _ _ _ _ _ _ _ _ (l .inv) (c .before .before .cells-test .taken))
+    (rw k (cell-long _ _ _ _ _ _ _ _ _ _ _ _ _ _ _ (l .inv) (c .before .before .cells-test .taken)), area-here _ _ _ _ _ _ _ (c .before .before .before .before .before .before .before .before .before .before .pre))
 
 to-search-requires : tie.Need-to-search-requires Inv-items μ-items Inv-cells μ-cells
 to-search-requires c κs = search needs
@@ -176,7 +177,7 @@ step-cell-requires c κs =
     (asked _ _ _ _ _ _ _ _ _ _ _ _ _ _ (l .inv) (c .before .before .before .before .before .before .before .before .before .before .cells-test .taken) (l .at + cellSize current - l .at) (length (l .answer) - l .out) k refl, (c .before .before .before .before .before .before .before .before .before .before .before .before .before .before .before .before .before .before .pre .to-step, c .before .before .before .before .before .before .before .before .before .before .before .before .if1 .left))
 
 mul-out : tie.Need-mul-out Inv-items μ-items Inv-cells μ-cells
-mul-out c = omega (arith, c .before .before .before .before .before .step-cell .ensures .few, few-rows (c .before .before .before .before .before .before .before .before .before .before .before .before .before .before .before .before .before .before .before .before .before .before .before .before .args .request .kind))
+mul-out c = omega (arith, c .before .before .before .before .before .step-cell .ensures .few, rows-most (c .before .before .before .before .before .before .before .before .before .before .before .before .before .before .before .before .before .before .before .before .before .before .before .before .args .request .kind))
 
 add-out : tie.Need-add-out Inv-items μ-items Inv-cells μ-cells
 add-out c =
