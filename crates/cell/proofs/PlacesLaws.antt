@@ -81,7 +81,7 @@ live-few c = rw length-pieces at (few-places (placeRuns current c))
 
 -- the numbers of a place are those that its bytes say, with the mark of a live one
 marked : (b : List ℕ) → placeNumbers (placeOf current b) ≡ set (set (numbers (placeFields current) b) 8 1) 9 0
-unfolding placeNumbers placeOf numbers layout.field
+unfolding placeNumbers placeOf numbers layout.fieldOf
 marked b = refl
 
 -- whatever bytes say fits the fields

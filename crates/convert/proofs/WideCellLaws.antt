@@ -13,7 +13,7 @@ use Rattle.octets.specs.Runs.{Bytes, pieces}
 use Rattle.octets.proofs.RunsLaws.{bytes-take, bytes-append, pieces-flatMap, length-flatMap, length-pieces}
 use Rattle.octets.proofs.FieldsLaws.{numbers-zeros}
 use Rattle.rules.specs.Lists.{every}
-use Rattle.rules.specs.Layout.{version1, current, field, placeFields, placeSize, placesPerCell, headSize, cellSize, longestPeriod}
+use Rattle.rules.specs.Layout.{version1, current, fieldOf, placeFields, placeSize, placesPerCell, headSize, cellSize, longestPeriod}
 use Rattle.rules.specs.Table.{placeOf, isFree, liveFirst, placesOf, legalPlace, legalHead, legalPlaces, placeRuns, cellOf, cellBytes, legalCell}
 use Rattle.rules.specs.declared.Place.{Place}
 use Rattle.rules.proofs.ListsLaws.{both, by-test, zeros-replicate}
@@ -50,7 +50,7 @@ short-legal p =
     (λ e. rw e)
 
 free-short : {bs : List (List ℕ)} → All (λ b. isFree b ≡ true) bs → every shortPeriod bs ≡ true
-unfolding every shortPeriod field isFree
+unfolding every shortPeriod fieldOf isFree
 free-short none = refl
 free-short (more {x = b} f fs) = rw (zeros-replicate b f, numbers-zeros (placeFields version1) (length b), free-short fs)
 

@@ -12,7 +12,7 @@ use Rattle.octets.specs.Numbers.{be}
 use Rattle.octets.specs.Fields.{numbers}
 use Rattle.octets.proofs.RunsLaws.{sets-front, take-sets-front}
 use Rattle.rules.specs.Lists.{every, any, zeros, oneOf}
-use Rattle.rules.specs.Layout.{field, version1, current, headerSize, cellSize}
+use Rattle.rules.specs.Layout.{fieldOf, version1, current, headerSize, cellSize}
 use Rattle.rules.specs.Table.{cellCount}
 use Rattle.rules.specs.Record.{oneSecond, requestOf, itemsOf, recordMarked, allowed, kindAllows, areaFits, withinLimits, cancelsNothing}
 use Rattle.rules.specs.Answer.{roomFor}
@@ -53,7 +53,7 @@ accepted-number t c e = rw e
 
 -- computed
 record-of-second : (recordVerdict version1 secondRecord ≡ Accepted) × (requestOf secondRecord .kind ≡ oneSecond)
-unfolding recordVerdict requestVerdict recordMarked requestOf itemsOf kindAllows areaFits withinLimits cancelsNothing allowed zeros oneOf any every field numbers be pieces
+unfolding recordVerdict requestVerdict recordMarked requestOf itemsOf kindAllows areaFits withinLimits cancelsNothing allowed zeros oneOf any every fieldOf numbers be pieces
 record-of-second = (refl, refl)
 
 -- version 1 accepts the record of a second, and so the call wherever there is room

@@ -9,7 +9,7 @@ use Rattle.octets.specs.Runs.{Bytes, gets, pieces}
 use Rattle.octets.specs.Numbers.{be, toBe}
 use Rattle.octets.specs.Fields.{size, numbers, bytesOf, filled}
 use Rattle.rules.specs.Lists.{every, any, those, zeros, oneOf, above, ascending}
-use Rattle.rules.specs.Layout.{current, field, headerSize, headSize, cellSize}
+use Rattle.rules.specs.Layout.{current, fieldOf, headerSize, headSize, cellSize}
 use Rattle.rules.specs.Table.{headOf, headNumbers, headBytes, legalHead, placeOf, placeNumbers, placeBytes, isFree, isLive, liveFirst, placesOf, legalPlace, isText, running, different, legalPlaces, cellOf, placesBytes, cellBytes, legalCell, cellsOf, headerBytes, tableBytes, tableMarked, legalTable}
 use Rattle.rules.specs.Record.{requestOf, itemsOf, recordMarked, allowed, kindAllows, areaFits, withinLimits, cancelsNothing}
 use Rattle.rules.specs.Reach.{names, reaches}
@@ -46,7 +46,7 @@ record Computed : Type 0 where
   stopping-bytes : Bytes stopping
 
 computed : Computed
-unfolding flatMap gets pieces be toBe size numbers bytesOf filled every any those zeros oneOf above ascending field headOf headNumbers headBytes legalHead placeOf placeNumbers placeBytes isFree isLive liveFirst placesOf legalPlace isText running different legalPlaces cellOf placesBytes cellBytes legalCell cellsOf headerBytes tableBytes tableMarked legalTable requestOf itemsOf recordMarked allowed kindAllows areaFits withinLimits cancelsNothing names reaches startsNothing newPlace start cancel inCell rowBytes answerHead answerBytes roomFor tableVerdict requestVerdict recordVerdict applyVerdict stepCell cellRows outcome applied
+unfolding flatMap gets pieces be toBe size numbers bytesOf filled every any those zeros oneOf above ascending fieldOf headOf headNumbers headBytes legalHead placeOf placeNumbers placeBytes isFree isLive liveFirst placesOf legalPlace isText running different legalPlaces cellOf placesBytes cellBytes legalCell cellsOf headerBytes tableBytes tableMarked legalTable requestOf itemsOf recordMarked allowed kindAllows areaFits withinLimits cancelsNothing names reaches startsNothing newPlace start cancel inCell rowBytes answerHead answerBytes roomFor tableVerdict requestVerdict recordVerdict applyVerdict stepCell cellRows outcome applied
 computed =
     record {
       started = refl;
@@ -113,7 +113,7 @@ module _ (u : CallUnit) (m : Meets u) where
 
   -- the same of the second cell
   not-first-cell : ChangesFirstCellOnly u → ⊥
-  unfolding pieces field numbers gets be size
+  unfolding pieces fieldOf numbers gets be size
   not-first-cell h =
       let z : _≡_ {A = ℕ} 17 0 = sym (ap (λ (o : Outcome). getD (cellAt (o .table) 1) 24 0) started-two) ∙ ap (λ l. getD l 24 0) (h (two (free 4) (free 4)) starting blank 1 (omega arith)) in
       omega arith

@@ -11,7 +11,7 @@ use lib.ListN.{length, take, length-append}
 use lib.Seq.{take-all, take-append-le}
 use borrow.Author.Tests.{leb-true, le-leb, eqb-true}
 use Rattle.octets.proofs.FieldsLaws.{numbers-append}
-use Rattle.rules.specs.Layout.{current, versionNumber, field, recordFields, recordSize, recordMark, itemSize, mostItems}
+use Rattle.rules.specs.Layout.{current, versionNumber, fieldOf, markField, recordFields, recordSize, recordMark, itemSize, mostItems}
 use Rattle.rules.specs.Table.{tableMarked, legalTable}
 use Rattle.rules.specs.Record.{versionIn, takes, requestOf, itemCount, itemsOf, recordMarked}
 use Rattle.rules.specs.Refusals.{verdictNumber, _then_, tableVerdict, recordVerdict, applyVerdict}
@@ -27,7 +27,7 @@ use Rattle.lines.proofs.FrameLaws.{own-whole, frame-whole, frame-cut}
 -- ---- more input changes nothing
 
 count-stays : (held more : List ℕ) → recordSize ≤ length held → itemCount (held ++ more) ≡ itemCount held
-unfolding field
+unfolding fieldOf
 count-stays held more h = rw (numbers-append recordFields held more (omega (arith, record-size)))
 
 own-least : (l : List ℕ) → recordSize ≤ ownSize l
@@ -93,8 +93,8 @@ stops-4 = refl
 long-marked : (l : List ℕ) → recordMarked current l ≡ true → recordSize ≤ length l
 unfolding recordMarked
 long-marked l e =
-    let m = both (leb recordSize (length l) && eqb (field recordFields 0 l) recordMark) (takes current (versionIn l)) e in
-    leb-true recordSize (length l) (both (leb recordSize (length l)) (eqb (field recordFields 0 l) recordMark) (m .0) .0)
+    let m = both (leb recordSize (length l) && eqb (fieldOf recordFields markField l) recordMark) (takes current (versionIn l)) e in
+    leb-true recordSize (length l) (both (leb recordSize (length l)) (eqb (fieldOf recordFields markField l) recordMark) (m .0) .0)
 
 -- what is shorter than its own size is refused by its mark or its length
 pub cut-refused : (l : List ℕ) → length l < ownSize l → stopsAt (verdictNumber (recordVerdict current l)) ≡ true

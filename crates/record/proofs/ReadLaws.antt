@@ -13,7 +13,7 @@ use borrow.Author.Tests.{leb-true, le-leb, lt-leb, eq-eqb, ne-eqb, not-true, not
 use Rattle.octets.specs.Runs.{Bytes, gets, pieces}
 use Rattle.octets.specs.Numbers.{be}
 use Rattle.octets.specs.Fields.{offset}
-use Rattle.rules.specs.Layout.{current, field, recordFields, recordSize, itemSize, recordMark, mostItems}
+use Rattle.rules.specs.Layout.{current, fieldOf, markField, recordFields, recordSize, itemSize, recordMark, mostItems}
 use Rattle.rules.specs.Record.{versionIn, takes, longestAsked, identifierToSib, cancelZeros, notified, requestOf, itemsOf, itemCount, zeroByte, recordMarked}
 use Rattle.rules.specs.Refusals.{requestVerdict, recordVerdict}
 use Rattle.rules.specs.Applied.{readBy, reading, readOf}
@@ -33,7 +33,7 @@ use Rattle.rules.proofs.RecordTrips.{record-accepted}
 
 -- ---- fields
 
-pub record-field : (r : List ℕ) → recordSize ≤ length r → (k : ℕ) → field recordFields k r ≡ be (gets r (offset recordFields k) (getD recordFields k 0))
+pub record-field : (r : List ℕ) → recordSize ≤ length r → (k : ℕ) → fieldOf recordFields k r ≡ be (gets r (offset recordFields k) (getD recordFields k 0))
 record-field r h = field-at recordFields r (rw record-size h)
 
 -- ---- mark and version
@@ -114,8 +114,8 @@ module _ (r : List ℕ) {marked : Bool} (m : marked ≡ recordMarked current r) 
     pub long-enough : recordSize ≤ length r
     unfolding recordMarked
     long-enough =
-        let h = both (leb recordSize (length r) && eqb (field recordFields 0 r) recordMark) (takes current (versionIn r)) (sym m ∙ not-false marked right) in
-        leb-true recordSize (length r) (both (leb recordSize (length r)) (eqb (field recordFields 0 r) recordMark) (h .0) .0)
+        let h = both (leb recordSize (length r) && eqb (fieldOf recordFields markField r) recordMark) (takes current (versionIn r)) (sym m ∙ not-false marked right) in
+        leb-true recordSize (length r) (both (leb recordSize (length r)) (eqb (fieldOf recordFields markField r) recordMark) (h .0) .0)
 
     module _ {n : ℕ} (c : n ≡ itemCount r) where
       pub many-refused : mostItems < n → Refused RecordLength ≡ recordVerdict current r

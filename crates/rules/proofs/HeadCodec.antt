@@ -12,7 +12,7 @@ use Rattle.octets.specs.Runs.{Bytes}
 use Rattle.octets.specs.Fields.{size, numbers, Fit, filled}
 use Rattle.octets.proofs.FieldsLaws.{length-filled, filled-append, take-filled, drop-filled, fit-numbers, bytes-bytesOf}
 use Rattle.rules.specs.Lists.{zeros, ascending}
-use Rattle.rules.specs.Layout.{field, headFields, headSize, mostAreas, cellEnd}
+use Rattle.rules.specs.Layout.{fieldOf, headFields, headSize, mostAreas, cellEnd}
 use Rattle.rules.specs.Table.{Head, areasUsed, allAreas, headOf, headNumbers, headBytes, legalHead}
 use Rattle.rules.specs.Sound.{soundHead}
 use Rattle.rules.proofs.ListsLaws.{both, zeros-replicate, replicate-zeros}
@@ -74,7 +74,7 @@ module _ (b : List ℕ) (bytes : Bytes b) (long : length b ≡ headSize) (legal 
   used = length-take-le (areasUsed b) (allAreas b) (legal-head b legal .few)
 
   same-numbers : headNumbers (headOf b) ≡ numbers headFields b
-  unfolding headNumbers headOf numbers field
+  unfolding headNumbers headOf numbers fieldOf
   same-numbers =
       let few : areasUsed b ≤ length (allAreas b) = legal-head b legal .few in
       rw (used, filled-zeros (areasUsed b) (allAreas b) few (legal-head b legal .spare))
@@ -105,10 +105,10 @@ module _ (h : Head) (sound : soundHead h ≡ true) where
   bytes-headBytes = bytes-bytesOf headFields (headNumbers h) (sound-head h sound .fit)
 
   pub head-again : headOf (headBytes h) ≡ h
-  unfolding headOf headNumbers field
+  unfolding headOf headNumbers fieldOf
   head-again = rw (written, take-filled mostAreas 0 (h .areas) (sound-head h sound .few))
 
   pub head-legal : legalHead (headBytes h) ≡ true
-  unfolding legalHead headNumbers field
+  unfolding legalHead headNumbers fieldOf
   head-legal =
       rw (head-again, written, drop-filled mostAreas 0 (h .areas) (sound-head h sound .few), replicate-zeros (mostAreas - length (h .areas)), lt-ltb (h .identity) cellEnd (sound-head h sound .small), le-leb (length (h .areas)) mostAreas (sound-head h sound .few), sound-head h sound .order)

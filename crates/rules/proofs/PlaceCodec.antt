@@ -13,7 +13,7 @@ use Rattle.octets.specs.Fields.{size, numbers, filled}
 use Rattle.octets.proofs.RunsLaws.{bytes-replicate-zero}
 use Rattle.octets.proofs.FieldsLaws.{length-filled, fit-numbers, bytes-bytesOf, numbers-zeros}
 use Rattle.rules.specs.Lists.{every, zeros}
-use Rattle.rules.specs.Layout.{Version, field, placeFields, placeSize, placesPerCell}
+use Rattle.rules.specs.Layout.{Version, fieldOf, liveInPlace, zeroInPlace, placeFields, placeSize, placesPerCell}
 use Rattle.rules.specs.Table.{placeOf, placeNumbers, placeBytes, freeBytes, isFree, isLive, liveFirst, placesOf, legalPlace, different, legalPlaces, placesBytes}
 use Rattle.rules.specs.Sound.{fits, soundPlace, soundPlaces}
 use Rattle.rules.specs.declared.Place.{Place}
@@ -32,10 +32,10 @@ module _ (v : Version) where
 
   module _ (b : List ℕ) (bytes : Bytes b) (long : length b ≡ placeSize v) (live : isLive v b ≡ true) where
     same-numbers : placeNumbers (placeOf v b) ≡ numbers (placeFields v) b
-    unfolding placeNumbers placeOf numbers field isLive
+    unfolding placeNumbers placeOf numbers fieldOf isLive
     same-numbers =
         let h = both _ _ live in
-        rw (eqb-true (field (placeFields v) 8 b) 1 (h .0), eqb-true (field (placeFields v) 9 b) 0 (h .1))
+        rw (eqb-true (fieldOf (placeFields v) liveInPlace b) 1 (h .0), eqb-true (fieldOf (placeFields v) zeroInPlace b) 0 (h .1))
 
     pub place-back : placeBytes v (placeOf v b) ≡ b
     unfolding placeBytes size
@@ -50,7 +50,7 @@ module _ (v : Version) where
   free-back b e n = rw n at (zeros-replicate b e)
 
   zeros-not-live : (n : ℕ) → isLive v (replicate n 0) ≡ false
-  unfolding isLive field
+  unfolding isLive fieldOf
   zeros-not-live n = rw (numbers-zeros (placeFields v) n)
 
   -- no bytes are both live and free
@@ -74,11 +74,11 @@ module _ (v : Version) where
     written = numbers-written (placeFields v) (placeNumbers p) (fits-Fit (placeFields v) (placeNumbers p) fit)
 
     pub place-again : placeOf v (placeBytes v p) ≡ p
-    unfolding placeOf placeNumbers field
+    unfolding placeOf placeNumbers fieldOf
     place-again = rw written
 
     pub place-live : isLive v (placeBytes v p) ≡ true
-    unfolding isLive placeNumbers field
+    unfolding isLive placeNumbers fieldOf
     place-live = rw written
 
     pub place-not-free : isFree (placeBytes v p) ≡ false

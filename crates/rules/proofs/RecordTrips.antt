@@ -14,7 +14,7 @@ use Rattle.octets.proofs.RunsLaws.{length-flatMap}
 use Rattle.octets.proofs.NumbersLaws.{length-toBe}
 use Rattle.octets.proofs.FieldsLaws.{length-bytesOf}
 use Rattle.rules.specs.Lists.{every}
-use Rattle.rules.specs.Layout.{Version, version1, version2, current, field, recordFields, recordSize, itemSize, recordMark, mostItems, longestPeriod, firstSib, lastSib}
+use Rattle.rules.specs.Layout.{Version, version1, version2, current, fieldOf, markField, recordFields, recordSize, itemSize, recordMark, mostItems, longestPeriod, firstSib, lastSib}
 use Rattle.rules.specs.Record.{writeReplace, versionIn, takes, longestAsked, requestOf, requestNumbers, recordBytes, itemsOf, itemCount, zeroByte, recordMarked, itemEndIn, itemEnd, withinLimits}
 use Rattle.rules.specs.Refusals.{refuseUnless, _then_, requestVerdict, recordVerdict, writeVerdict}
 use Rattle.rules.specs.Sound.{fits, fitRequest}
@@ -34,7 +34,7 @@ use Rattle.rules.proofs.RecordCodec.{field-again, request-again, items-
 -- by a unit of a version
 pub record AcceptedRecord (v : Version) (r : List ℕ) : Type 0 where
   pub long : recordSize ≤ length r
-  pub mark : field recordFields 0 r ≡ recordMark
+  pub mark : fieldOf recordFields markField r ≡ recordMark
   pub version : takes v (versionIn r) ≡ true
   pub few : itemCount r ≤ mostItems
   pub size : length r ≡ recordSize + itemSize * itemCount r
@@ -47,12 +47,12 @@ record-accepted v r e =
     let m = then-accepted (refuseUnless (recordMarked v r) RecordMark) _ e in
     let l = then-accepted (refuseUnless (leb (itemCount r) mostItems && eqb (length r) (recordSize + itemSize * itemCount r)) RecordLength) _ (m .1) in
     let z = then-accepted (refuseUnless (eqb (zeroByte r) 0) RecordFields) _ (l .1) in
-    let m₂ = both (leb recordSize (length r) && eqb (field recordFields 0 r) recordMark) (takes v (versionIn r)) (unless-accepted (recordMarked v r) RecordMark (m .0)) in
-    let m₁ = both (leb recordSize (length r)) (eqb (field recordFields 0 r) recordMark) (m₂ .0) in
+    let m₂ = both (leb recordSize (length r) && eqb (fieldOf recordFields markField r) recordMark) (takes v (versionIn r)) (unless-accepted (recordMarked v r) RecordMark (m .0)) in
+    let m₁ = both (leb recordSize (length r)) (eqb (fieldOf recordFields markField r) recordMark) (m₂ .0) in
     let l₁ = both (leb (itemCount r) mostItems) (eqb (length r) (recordSize + itemSize * itemCount r)) (unless-accepted _ RecordLength (l .0)) in
     record {
       long = leb-true recordSize (length r) (m₁ .0);
-      mark = eqb-true (field recordFields 0 r) recordMark (m₁ .1);
+      mark = eqb-true (fieldOf recordFields markField r) recordMark (m₁ .1);
       version = m₂ .1;
       few = leb-true (itemCount r) mostItems (l₁ .0);
       size = eqb-true (length r) (recordSize + itemSize * itemCount r) (l₁ .1);
@@ -124,7 +124,7 @@ module _ (q : Request) (items : List ℕ) (fit : fitRequest q ≡ true) (few : l
       rw (length-append, length-bytesOf recordFields (requestNumbers q (length items)) fit-head, record-size, length-flatMap itemSize (toBe itemSize) items (length-toBe itemSize))
 
   -- a field of the record, with nothing behind it
-  own-field : (k : ℕ) → field recordFields k (recordBytes q items) ≡ getD (requestNumbers q (length items)) k 0
+  own-field : (k : ℕ) → fieldOf recordFields k (recordBytes q items) ≡ getD (requestNumbers q (length items)) k 0
   own-field k = rw append-nil at (field-again q items [] fit-head k)
 
   own-request : requestOf (recordBytes q items) ≡ q

@@ -8,7 +8,7 @@ use Rattle.octets.specs.Runs.{pieces}
 use Rattle.octets.specs.Numbers.{be, toBe}
 use Rattle.octets.specs.Fields.{bytesOf}
 use Rattle.rules.specs.Lists.{every, zeros, oneOf}
-use Rattle.rules.specs.Layout.{Version, version1, version2, longestPeriod, field, recordFields, recordSize, itemSize, recordMark, recordVersion, firstSib, lastSib, primarySib, cellEnd, trackingEnd, emergencyEnd}
+use Rattle.rules.specs.Layout.{Version, version1, version2, longestPeriod, fieldOf, kindInRecord, flagsInRecord, areaInRecord, identifierInRecord, serialInRecord, contentInRecord, periodInRecord, requestedInRecord, sibInRecord, zeroInRecord, countInRecord, versionField, markField, recordFields, recordSize, itemSize, recordMark, recordVersion, firstSib, lastSib, primarySib, cellEnd, trackingEnd, emergencyEnd}
 use Rattle.rules.specs.declared.Request.{Request}
 
 -- ---- kinds and areas: their numbers, and what a number names
@@ -91,22 +91,22 @@ isPrimary q = eqb (q .sib) primarySib
 unfoldable pub requestOf : List ℕ → Request
 requestOf r =
     record {
-      kind = field recordFields 2 r;
-      flags = field recordFields 3 r;
-      area = field recordFields 4 r;
-      identifier = field recordFields 5 r;
-      serial = field recordFields 6 r;
-      content = field recordFields 7 r;
-      period = record { 0 = field recordFields 8 r };
-      requested = record { 0 = field recordFields 9 r };
-      sib = field recordFields 10 r;
+      kind = fieldOf recordFields kindInRecord r;
+      flags = fieldOf recordFields flagsInRecord r;
+      area = fieldOf recordFields areaInRecord r;
+      identifier = fieldOf recordFields identifierInRecord r;
+      serial = fieldOf recordFields serialInRecord r;
+      content = fieldOf recordFields contentInRecord r;
+      period = record { 0 = fieldOf recordFields periodInRecord r };
+      requested = record { 0 = fieldOf recordFields requestedInRecord r };
+      sib = fieldOf recordFields sibInRecord r;
     }
 
 abbrev pub zeroByte : List ℕ → ℕ
-zeroByte r = field recordFields 11 r
+zeroByte r = fieldOf recordFields zeroInRecord r
 
 abbrev pub itemCount : List ℕ → ℕ
-itemCount r = field recordFields 12 r
+itemCount r = fieldOf recordFields countInRecord r
 
 unfoldable pub itemsOf : List ℕ → List ℕ
 itemsOf r = map be (pieces itemSize (itemCount r) (drop recordSize r))
@@ -133,7 +133,7 @@ recordBytes q items = bytesOf recordFields (requestNumbers q (length items)) ++ 
 
 -- the number of a record's version
 abbrev pub versionIn : List ℕ → ℕ
-versionIn r = field recordFields 1 r
+versionIn r = fieldOf recordFields versionField r
 
 -- records of a version are taken by it and by later ones
 abbrev pub takes : Version → ℕ → Bool
@@ -142,7 +142,7 @@ takes version2 n = eqb n 1 || eqb n 2
 
 unfoldable pub recordMarked : Version → List ℕ → Bool
 recordMarked v r =
-    leb recordSize (length r) && eqb (field recordFields 0 r) recordMark && takes v (versionIn r)
+    leb recordSize (length r) && eqb (fieldOf recordFields markField r) recordMark && takes v (versionIn r)
 
 -- the same record in the version that the writer writes
 unfoldable pub renewed : List ℕ → List ℕ
