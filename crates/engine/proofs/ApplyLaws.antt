@@ -26,7 +26,7 @@ use Rattle.rules.specs.declared.Verdict.the-variants.{Accepted, Refused}
 use Rattle.rules.proofs.ListsLaws.{both}
 use Rattle.rules.proofs.TableCodec.{table-accepted, table-back}
 use Rattle.rules.proofs.RecordTrips.{AcceptedRecord, record-accepted, within-own}
-use Rattle.rules.proofs.VerdictLaws.{AllowedRequest, request-accepted}
+use Rattle.rules.proofs.VerdictLaws.{apply-chain, AllowedRequest, request-accepted}
 use Rattle.rules.proofs.KindAreaLaws.{kind-known}
 use Rattle.rules.proofs.StartLaws.{new-sound}
 use Rattle.rules.proofs.AppliedLaws.{AcceptedCall, call-accepted, record-fits, length-answerHead, length-answerBytes, length-rowBytes, answer-fits, applied-table, applied-answer}
@@ -38,22 +38,18 @@ use Rattle.engine.specs.Walk.{rowsAfter, tableAfter, isIdle, WalkOut, Gr
 
 module _ (t r : List ℕ) (room : ℕ) where
   pub table-refused : (x : Refusal) → tableVerdict current t ≡ Refused x → Refused x ≡ applyVerdict current t r room
-  unfolding applyVerdict
-  table-refused x e = rw e
+  table-refused x e = rw (apply-chain current t r room, e)
 
   module _ (a : tableVerdict current t ≡ Accepted) where
     pub record-refused : (x : Refusal) → recordVerdict current r ≡ Refused x → Refused x ≡ applyVerdict current t r room
-    unfolding applyVerdict
-    record-refused x e = rw (a, e)
+    record-refused x e = rw (apply-chain current t r room, a, e)
 
     module _ (b : recordVerdict current r ≡ Accepted) where
       pub room-refused : room < roomFor (requestOf r .kind) (cellCount t) → Refused ShortBuffer ≡ applyVerdict current t r room
-      unfolding applyVerdict
-      room-refused h = rw (a, b, lt-leb (roomFor (requestOf r .kind) (cellCount t)) room h)
+      room-refused h = rw (apply-chain current t r room, a, b, lt-leb (roomFor (requestOf r .kind) (cellCount t)) room h)
 
       pub none-refused : roomFor (requestOf r .kind) (cellCount t) ≤ room → Accepted ≡ applyVerdict current t r room
-      unfolding applyVerdict
-      none-refused h = rw (a, b, le-leb (roomFor (requestOf r .kind) (cellCount t)) room h)
+      none-refused h = rw (apply-chain current t r room, a, b, le-leb (roomFor (requestOf r .kind) (cellCount t)) room h)
 
 pub long-table : (t : List ℕ) → tableVerdict current t ≡ Accepted → headerSize ≤ length t
 long-table t e = omega (arith, table-accepted current t e .size)

@@ -21,6 +21,7 @@ use Rattle.rules.specs.declared.Verdict.{Verdict}
 use Rattle.rules.specs.declared.Verdict.the-variants.{Accepted, Refused}
 use Rattle.rules.proofs.LayoutLaws.{record-size}
 use Rattle.rules.proofs.ListsLaws.{both, by-test}
+use Rattle.rules.proofs.VerdictLaws.{apply-chain}
 use Rattle.lines.specs.Framing.{ownSize, frameOf, stopsAt}
 use Rattle.lines.proofs.FrameLaws.{own-whole, frame-whole, frame-cut}
 
@@ -115,11 +116,12 @@ cut-refused l h = by-test (recordMarked current l) marked (λ (e : recordMarked 
 
 -- so the program stops there, whatever its table
 pub cut-stops : (t a l : List ℕ) → length l < ownSize l → stopsAt (applied current t (take (frameOf l true) l) a .number) ≡ true
-unfolding applied applyVerdict
+unfolding applied
 cut-stops t a l h =
     rw (
       ← frame-cut l (ownSize l) refl true refl h,
       take-all (length l) l (omega arith),
       number-of (applyVerdict current t l (length a)) (requestOf l) (itemsOf l) t a,
+      apply-chain current t l (length a),
     )
     (table-stops t _ (stays-stopped (recordVerdict current l) _ (cut-refused l h)))

@@ -132,7 +132,7 @@ module _ (r : List ℕ) {marked : Bool} (m : marked ≡ recordMarked current r) 
         zero-refused t = rw (← m, not-false marked right, ← c, le-leb n mostItems few, eq-eqb (length r) (recordSize + itemSize * n) size, ← z, ne-eqb zero 0 t)
 
         pub rest-judged : zero ≡ 0 → requestVerdict (longestAsked r) (requestOf r) (itemsOf r) ≡ recordVerdict current r
-        unfolding recordVerdict
+        unfolding recordVerdict requestVerdict
         rest-judged t = rw (← m, not-false marked right, ← c, le-leb n mostItems few, eq-eqb (length r) (recordSize + itemSize * n) size, ← z, eq-eqb zero 0 t)
 
 -- ---- what is read

@@ -10,6 +10,7 @@ pub mod RoundTrips
 pub mod SamplesHold
 pub mod KindAreaLaws
 pub mod VerdictLaws
+pub mod VerdictsHold
 pub mod FitLaws
 pub mod PlaceLaws
 pub mod SoundPlaceLaws

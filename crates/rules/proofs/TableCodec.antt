@@ -17,15 +17,14 @@ use Rattle.rules.specs.Lists.{every, ascending}
 use Rattle.rules.specs.Layout.{Version, fieldOf, markField, versionField, placesInHeader, zeroInHeader, headerFields, headerSize, headSize, cellSize, placesPerCell, tableMark, versionNumber, mostCells}
 use Rattle.rules.specs.Table.{Cell, headOf, legalHead, cellOf, cellBytes, legalCell, cellCount, cellRuns, cellsOf, headerBytes, tableBytes, identityAt, tableMarked, legalTable, different}
 use Rattle.rules.specs.Sound.{fits, soundPlaces, soundCell, identityOfCell, soundCells}
-use Rattle.rules.specs.Refusals.{refuseUnless, tableVerdict, headCount, headRuns, legalHeads}
+use Rattle.rules.specs.Refusals.{tableTests, tableVerdict, headCount, headRuns, legalHeads}
 use Rattle.rules.specs.Applied.{emptyCell}
-use Rattle.rules.specs.declared.Refusal.the-variants.{TableMark, TableWrong}
 use Rattle.rules.specs.declared.Verdict.the-variants.{Accepted}
 use Rattle.rules.proofs.ListsLaws.{both, flatMap-map}
 use Rattle.rules.proofs.AllLaws.{All, all-every, every-all, all-imply, all-both, all-map, map-all, flatMap-all, all-pieces, bytes-flatMap-all}
 use Rattle.rules.proofs.FitLaws.{fits-Fit, length-written}
 use Rattle.rules.proofs.LayoutLaws.{number-fits}
-use Rattle.rules.proofs.VerdictLaws.{then-accepted, unless-accepted}
+use Rattle.rules.proofs.VerdictLaws.{all-held}
 use Rattle.rules.proofs.HeadCodec.{head-sound}
 use Rattle.rules.proofs.CellCodec.{cell-back, cell-sound, length-cellBytes, cell-again, cell-legal, bytes-cellBytes}
 
@@ -46,10 +45,10 @@ module _ (v : Version) where
   pub table-accepted : (t : List ℕ) → tableVerdict v t ≡ Accepted → LegalTable t
   unfolding tableVerdict tableMarked legalTable
   table-accepted t e =
-      let h = then-accepted (refuseUnless (tableMarked (versionNumber v) t) TableMark) (refuseUnless (legalTable v t) TableWrong) e in
-      let m = both _ _ (unless-accepted (tableMarked (versionNumber v) t) TableMark (h .0)) in
+      let h = all-held (tableTests v t) e in
+      let m = both _ _ (h .0) in
       let w = both (leb 5 (length t)) _ (m .0) in
-      let a = both _ _ (unless-accepted (legalTable v t) TableWrong (h .1)) in
+      let a = both _ _ (h .1 .0) in
       let b = both _ _ (a .0) in
       let c = both _ _ (b .0) in
       let d = both _ _ (c .0) in
