@@ -13,9 +13,11 @@ use Rattle.octets.proofs.RunsLaws.{length-pieces, pieces-flat, bytes-take}
 use Rattle.octets.proofs.FieldsLaws.{fit-numbers, length-filled}
 use Rattle.octets.proofs.PartsLaws.{fit-set}
 use Rattle.rules.specs.Layout as layout
-use Rattle.rules.specs.Layout.{current, placeFields, headSize, placeSize, placesPerCell, cellSize}
+use Rattle.rules.specs.Layout.{current, placeFields, sentInPlace, waitInPlace, headSize, placeSize, placesPerCell, cellSize}
 use Rattle.rules.specs.Table.{headOf, legalHead, placeOf, placeNumbers, placeBytes, freeBytes, isFree, liveFirst, placesOf, placeRuns, placesBytes, cellBytes, legalCell}
 use Rattle.rules.specs.InCell.{withCounts}
+use Rattle.rules.specs.declared.Seconds.{Seconds}
+use Rattle.rules.specs.declared.Broadcasts.{Broadcasts}
 use Rattle.rules.specs.declared.Place.{Place}
 use Rattle.rules.proofs.AllLaws.{All, none, more, all-of, all-map, all-filled}
 use Rattle.rules.proofs.JoinedLaws.{all-at, joined, Wide, joined-gets, getD-filled, getD-spare, getD-map}
@@ -127,14 +129,14 @@ pub fit-at : (c : List ℕ) → Bytes c → (k : ℕ) → LiveAt c k → FitPlac
 unfolding placeAt
 fit-at c bytes k at = all-at (live-fit c bytes (at .formed .size)) k noPlace (at .live)
 
-pub counted : (p : Place) (sent wait : ℕ) → placeNumbers (withCounts p sent wait) ≡ set (set (placeNumbers p) 5 sent) 6 wait
+pub counted : (p : Place) (sent : Broadcasts) (wait : Seconds) → placeNumbers (withCounts p sent wait) ≡ set (set (placeNumbers p) sentInPlace (sent .0)) waitInPlace (wait .0)
 unfolding placeNumbers withCounts
 counted p sent wait = refl
 
-pub fit-counts : (p : Place) → FitPlace current p → (sent wait : ℕ) → sent < 256 ^ 2 → wait < 256 ^ 4 → FitPlace current (withCounts p sent wait)
+pub fit-counts : (p : Place) → FitPlace current p → (sent : Broadcasts) (wait : Seconds) → sent .0 < 256 ^ 2 → wait .0 < 256 ^ 4 → FitPlace current (withCounts p sent wait)
 fit-counts p fit sent wait s w =
     Fit-fits (placeFields current) (placeNumbers (withCounts p sent wait))
-    (rw (counted p sent wait) (fit-set (fit-set (fits-Fit (placeFields current) (placeNumbers p) fit) 5 sent s) 6 wait w))
+    (rw (counted p sent wait) (fit-set (fit-set (fits-Fit (placeFields current) (placeNumbers p) fit) sentInPlace (sent .0) s) waitInPlace (wait .0) w))
 
 -- ---- the bytes of one place
 

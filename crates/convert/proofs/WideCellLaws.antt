@@ -42,11 +42,11 @@ first-wide (more {x = b} r rs) = rw (free-wide b r, live-wide b r, all-free-wide
 
 -- ---- version 1's rules of a place
 
-short-legal : (p : Place) → legalPlace version1 p ≡ leb (p .period .0) (longestPeriod version1) && legalPlace current p
+short-legal : (p : Place) → legalPlace version1 p ≡ leb (p .period .0) (longestPeriod version1 .0) && legalPlace current p
 unfolding legalPlace
 short-legal p =
-    by-test (leb (p .period .0) (longestPeriod version1))
-    (λ e. rw (e, le-leb (p .period .0) (longestPeriod current) (omega (arith, leb-true (p .period .0) (longestPeriod version1) e))))
+    by-test (leb (p .period .0) (longestPeriod version1 .0))
+    (λ e. rw (e, le-leb (p .period .0) (longestPeriod current .0) (omega (arith, leb-true (p .period .0) (longestPeriod version1 .0) e))))
     (λ e. rw e)
 
 free-short : {bs : List (List ℕ)} → All (λ b. isFree b ≡ true) bs → every shortPeriod bs ≡ true

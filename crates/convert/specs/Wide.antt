@@ -22,7 +22,7 @@ wideCell c = take headSize c ++ widePlaces c
 
 -- of version 1's rules only this is none of the current ones, once a place is widened
 unfoldable pub shortPeriod : List ℕ → Bool
-shortPeriod b = leb (fieldOf (placeFields version1) periodInPlace b) (longestPeriod version1)
+shortPeriod b = leb (fieldOf (placeFields version1) periodInPlace b) (longestPeriod version1 .0)
 
 unfoldable pub shortPeriods : List ℕ → Bool
 shortPeriods c = every shortPeriod (placeRuns version1 c)

@@ -17,6 +17,8 @@ use Rattle.octets.proofs.PartsLaws.{field-stored, sets-over}
 use Rattle.rules.specs.Layout.{current, placeFields, headSize, placeSize, placesPerCell, cellSize}
 use Rattle.rules.specs.Table.{placeOf, placeNumbers, placeBytes, freeBytes, placesBytes}
 use Rattle.rules.specs.InCell.{withCounts}
+use Rattle.rules.specs.declared.Seconds.{Seconds}
+use Rattle.rules.specs.declared.Broadcasts.{Broadcasts}
 use Rattle.rules.specs.declared.Place.{Place}
 use Rattle.rules.proofs.JoinedLaws.{joined-sets, joined-less, set-filled, filled-more, filled-less, map-set, map-take, map-drop}
 use Rattle.rules.proofs.PlaceCodec.{runsOf, place-back}
@@ -71,27 +73,27 @@ module _ (c : List ℕ) (k : ℕ) (at : LiveAt c k) where
   ten p = refl
 
   -- sent and wait, which stand side by side
-  pub counts-stored : (sent wait : ℕ)
-      → sets (sets c (headSize + placeSize current * k + 14) (toBe 2 sent)) (headSize + placeSize current * k + 16) (toBe 4 wait) ≡ withPlaces c (set (livePlaces c) k (withCounts (placeAt c k) sent wait))
+  pub counts-stored : (sent : Broadcasts) (wait : Seconds)
+      → sets (sets c (headSize + placeSize current * k + 14) (toBe 2 (sent .0))) (headSize + placeSize current * k + 16) (toBe 4 (wait .0)) ≡ withPlaces c (set (livePlaces c) k (withCounts (placeAt c k) sent wait))
   unfolding placeBytes offset
   counts-stored sent wait =
       let p : Place = placeAt c k in
-      let n : length (toBe 2 sent) ≡ 2 = length-toBe 2 sent in
-      let m : length (toBe 2 sent ++ toBe 4 wait) ≡ 6 = rw (length-append, n, length-toBe 4 wait) in
-      let five : sets (placeBytes current p) 14 (toBe 2 sent) ≡ bytesOf (placeFields current) (set (placeNumbers p) 5 sent) = field-stored (placeFields current) (placeNumbers p) 5 sent (omega arith) (ten p) in
-      let six : sets (bytesOf (placeFields current) (set (placeNumbers p) 5 sent)) 16 (toBe 4 wait) ≡ bytesOf (placeFields current) (set (set (placeNumbers p) 5 sent) 6 wait) =
-      field-stored (placeFields current) (set (placeNumbers p) 5 sent) 6 wait (omega arith) (rw length-set (ten p)) in
-      sets-run (toBe 2 sent) (toBe 4 wait) c (headSize + placeSize current * k + 14) (headSize + placeSize current * k + 16) (omega arith)
-      ∙ stored (withCounts p sent wait) 14 (toBe 2 sent ++ toBe 4 wait) (omega arith)
-      (rw (← sets-run (toBe 2 sent) (toBe 4 wait) (placeBytes current p) 14 16 (omega arith), five, six, ← counted p sent wait))
+      let n : length (toBe 2 (sent .0)) ≡ 2 = length-toBe 2 (sent .0) in
+      let m : length (toBe 2 (sent .0) ++ toBe 4 (wait .0)) ≡ 6 = rw (length-append, n, length-toBe 4 (wait .0)) in
+      let five : sets (placeBytes current p) 14 (toBe 2 (sent .0)) ≡ bytesOf (placeFields current) (set (placeNumbers p) 5 (sent .0)) = field-stored (placeFields current) (placeNumbers p) 5 (sent .0) (omega arith) (ten p) in
+      let six : sets (bytesOf (placeFields current) (set (placeNumbers p) 5 (sent .0))) 16 (toBe 4 (wait .0)) ≡ bytesOf (placeFields current) (set (set (placeNumbers p) 5 (sent .0)) 6 (wait .0)) =
+      field-stored (placeFields current) (set (placeNumbers p) 5 (sent .0)) 6 (wait .0) (omega arith) (rw length-set (ten p)) in
+      sets-run (toBe 2 (sent .0)) (toBe 4 (wait .0)) c (headSize + placeSize current * k + 14) (headSize + placeSize current * k + 16) (omega arith)
+      ∙ stored (withCounts p sent wait) 14 (toBe 2 (sent .0) ++ toBe 4 (wait .0)) (omega arith)
+      (rw (← sets-run (toBe 2 (sent .0)) (toBe 4 (wait .0)) (placeBytes current p) 14 16 (omega arith), five, six, ← counted p sent wait))
 
   -- wait alone
-  pub wait-stored : (wait : ℕ) → sets c (headSize + placeSize current * k + 16) (toBe 4 wait) ≡ withPlaces c (set (livePlaces c) k (withCounts (placeAt c k) (placeAt c k .sent .0) wait))
+  pub wait-stored : (wait : Seconds) → sets c (headSize + placeSize current * k + 16) (toBe 4 (wait .0)) ≡ withPlaces c (set (livePlaces c) k (withCounts (placeAt c k) (placeAt c k .sent) wait))
   unfolding placeBytes offset placeNumbers withCounts
   wait-stored wait =
       let p : Place = placeAt c k in
-      let n : length (toBe 4 wait) ≡ 4 = length-toBe 4 wait in
-      stored (withCounts p (p .sent .0) wait) 16 (toBe 4 wait) (omega arith) (field-stored (placeFields current) (placeNumbers p) 6 wait (omega arith) refl)
+      let n : length (toBe 4 (wait .0)) ≡ 4 = length-toBe 4 (wait .0) in
+      stored (withCounts p (p .sent) wait) 16 (toBe 4 (wait .0)) (omega arith) (field-stored (placeFields current) (placeNumbers p) 6 (wait .0) (omega arith) refl)
 
 -- ---- a place more
 

@@ -11,6 +11,7 @@ use borrow.Author.Tests.{lt-leb, ne-eqb, not-true, not-false}
 use Rattle.rules.specs.Lists.{any, every, oneOf, zeros}
 use Rattle.rules.specs.Record.{emergencyArea, anyArea, kindAllows, areaFits, itemEnd, withinLimits, cancelsNothing}
 use Rattle.rules.specs.Refusals.{requestVerdict}
+use Rattle.rules.specs.declared.Seconds.{Seconds}
 use Rattle.rules.specs.declared.Request.{Request}
 use Rattle.rules.specs.declared.Refusal.the-variants.{RecordFields, RecordLimits, CancelsNothing}
 use Rattle.rules.specs.declared.Verdict.the-variants.{Accepted, Refused}
@@ -43,12 +44,12 @@ zeros-unless false xs = refl
 
 -- ---- 5, 6 and 7 in their order
 
-within-each : (longest : ℕ) (q : Request) (items : List ℕ) → withinLimits longest q items ≡ withinLimits longest q [] && every (λ x. ltb x (itemEnd (q .area))) items
+within-each : (longest : Seconds) (q : Request) (items : List ℕ) → withinLimits longest q items ≡ withinLimits longest q [] && every (λ x. ltb x (itemEnd (q .area))) items
 unfolding withinLimits every
 within-each longest q items = simp and-true
 
 -- of a request with n items, under a longest period
-module _ (longest : ℕ) (q : Request) (items : List ℕ) {n : ℕ} (e : length items ≡ n) {kind area : Bool} (k : kind ≡ kindAllows q) (a : area ≡ areaFits q n) where
+module _ (longest : Seconds) (q : Request) (items : List ℕ) {n : ℕ} (e : length items ≡ n) {kind area : Bool} (k : kind ≡ kindAllows q) (a : area ≡ areaFits q n) where
   pub fields-refused : not (kind && area) ≡ true → Refused RecordFields ≡ requestVerdict longest q items
   unfolding requestVerdict
   fields-refused t = rw (e, ← k, ← a, not-true (kind && area) t)

@@ -11,6 +11,7 @@ use Rattle.rules.specs.Record.{anyArea, areaFits, cancelsNothing, itemCount, it
 use Rattle.rules.specs.Refusals.{recordVerdict}
 use Rattle.rules.specs.Applied.{itemAt, readBy, readOf}
 use Rattle.rules.specs.declared.Reading.{Reading}
+use Rattle.rules.specs.declared.Seconds.{Seconds}
 use Rattle.rules.specs.declared.Request.{Request}
 use Rattle.rules.specs.declared.Verdict.{Verdict}
 use Rattle.rules.proofs.OnceLaws.{reading-injective}
@@ -51,7 +52,7 @@ module _ (q : Request) {a b : Bool} where
   pub area-fits-once : (n : ℕ) → a ≡ areaFits q n → b ≡ areaFits q n → a ≡ b
   area-fits-once n = one-outcome
 
-  pub text-within-once : (longest : ℕ) → a ≡ withinLimits longest q [] → b ≡ withinLimits longest q [] → a ≡ b
+  pub text-within-once : (longest : Seconds) → a ≡ withinLimits longest q [] → b ≡ withinLimits longest q [] → a ≡ b
   text-within-once longest = one-outcome
 
   pub cancels-nothing-once : a ≡ cancelsNothing q → b ≡ cancelsNothing q → a ≡ b

@@ -84,14 +84,14 @@ pub fn count(req: &[u8]) -> usize
 }
 
 // The longest period that a record may ask for: its own version says.
-fn longest_asked(req: &[u8]) -> u32
+fn longest_asked(req: &[u8]) -> Seconds
     requires { ⌜ recordSize ≤ length (now req) ⌝ }
     ensures { λ r. ⌜ r ≡ longestAsked (now (req .entry)) ⌝ }
 {
     if get16(req, VERSION_AT) == VERSION_1 as u16 {
-        return LONGEST_PERIOD_1;
+        return Seconds(LONGEST_PERIOD_1);
     }
-    LONGEST_PERIOD
+    Seconds(LONGEST_PERIOD)
 }
 
 // Whether each of the first n items is small enough for its area. Its end is a power of 2, so all of them are where all their bits are.

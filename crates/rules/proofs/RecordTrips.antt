@@ -18,6 +18,7 @@ use Rattle.rules.specs.Layout.{Version, version1, version2, current, fie
 use Rattle.rules.specs.Record.{writeReplace, versionIn, takes, longestAsked, requestOf, requestNumbers, recordBytes, itemsOf, itemCount, zeroByte, recordMarked, kindAllows, areaFits, itemEndIn, itemEnd, withinLimits, cancelsNothing}
 use Rattle.rules.specs.Refusals.{refuseUnless, fewItems, recordTests, requestVerdict, recordVerdict, writeVerdict}
 use Rattle.rules.specs.Sound.{fits, fitRequest}
+use Rattle.rules.specs.declared.Seconds.{Seconds}
 use Rattle.rules.specs.declared.Request.{Request}
 use Rattle.rules.specs.declared.Refusal.the-variants.{RecordLength, ShortBuffer}
 use Rattle.rules.specs.declared.Verdict.the-variants.{Accepted}
@@ -73,9 +74,9 @@ accepted-record v r a =
     rw (le-leb recordSize (length r) (a .long), eq-eqb _ _ (a .mark), a .version, le-leb _ _ (a .few), eq-eqb _ _ (a .size), eq-eqb _ _ (a .zero)) (a .request)
 
 -- so no record asks for more than its unit allows
-asked : (v : Version) (n : ℕ) → takes v n ≡ true → cond (eqb n 1) (longestPeriod version1) (longestPeriod version2) ≤ longestPeriod v
+asked : (v : Version) (n : ℕ) → takes v n ≡ true → cond (eqb n 1) (longestPeriod version1) (longestPeriod version2) .0 ≤ longestPeriod v .0
 asked version1 n e = rw e (omega arith)
-asked version2 n e = cond-either (λ x. x ≤ longestPeriod version2) (eqb n 1) _ _ (λ _. omega arith) (λ _. omega arith)
+asked version2 n e = cond-either (λ (x : Seconds). x .0 ≤ longestPeriod version2 .0) (eqb n 1) _ _ (λ _. omega arith) (λ _. omega arith)
 
 pub within-own : (v : Version) (r : List ℕ) → AcceptedRecord v r → requestVerdict (longestPeriod v) (requestOf r) (itemsOf r) ≡ Accepted
 within-own v r a = allowed-longer _ _ (requestOf r) (itemsOf r) (asked v (versionIn r) (a .version)) (a .request)
@@ -91,10 +92,10 @@ item-end : (area : ℕ) → itemEnd area ≤ 2 ^ 60
 item-end area = area-by (λ a. itemEndIn a ≤ 2 ^ 60) area (λ _. omega arith) (λ _. omega arith) (λ _. omega arith) (λ _. omega arith) (omega arith)
 
 -- an item within its area's limit fits its 8 bytes
-items-fit : (longest : ℕ) (q : Request) (items : List ℕ) → withinLimits longest q items ≡ true → All (λ x. x < 256 ^ itemSize) items
+items-fit : (longest : Seconds) (q : Request) (items : List ℕ) → withinLimits longest q items ≡ true → All (λ x. x < 256 ^ itemSize) items
 unfolding withinLimits
 items-fit longest q items e =
-    let start : Bool = not (eqb (q .kind) writeReplace) || leb (q .period .0) longest && leb firstSib (q .sib) && leb (q .sib) lastSib in
+    let start : Bool = not (eqb (q .kind) writeReplace) || leb (q .period .0) (longest .0) && leb firstSib (q .sib) && leb (q .sib) lastSib in
     let h = both start (every (λ x. ltb x (itemEnd (q .area))) items) e in
     all-imply (λ x t. omega (arith, ltb-true x (itemEnd (q .area)) t, item-end (q .area))) (all-every (λ x. ltb x (itemEnd (q .area))) items (h .1))
 

@@ -14,6 +14,7 @@ use Rattle.rules.specs.Table.{cellCount}
 use Rattle.rules.specs.Record.{requestOf, itemEnd, writeReplace, kindAllows, areaFits, withinLimits, cancelsNothing}
 use Rattle.rules.specs.Answer.{roomFor}
 use Rattle.rules.specs.Refusals.{refuseUnless, _then_, Test, test, firstOf, Held, fewItems, fitsIn, tableTests, requestTests, recordTests, tableVerdict, requestVerdict, recordVerdict, writeVerdict, applyVerdict, convertVerdict}
+use Rattle.rules.specs.declared.Seconds.{Seconds}
 use Rattle.rules.specs.declared.Request.{Request}
 use Rattle.rules.specs.declared.Refusal.{Refusal}
 use Rattle.rules.specs.declared.Refusal.the-variants.{RecordLength, ShortBuffer}
@@ -81,13 +82,13 @@ convert-chain old room = first-last (tableTests version1 old) (fitsIn (headerSiz
 -- ---- a request
 
 -- under a longest period
-pub record AllowedRequest (longest : ℕ) (q : Request) (items : List ℕ) : Type 0 where
+pub record AllowedRequest (longest : Seconds) (q : Request) (items : List ℕ) : Type 0 where
   pub kind : kindAllows q ≡ true
   pub area : areaFits q (length items) ≡ true
   pub limits : withinLimits longest q items ≡ true
   pub some : cancelsNothing q ≡ false
 
-pub request-accepted : (longest : ℕ) (q : Request) (items : List ℕ) → requestVerdict longest q items ≡ Accepted → AllowedRequest longest q items
+pub request-accepted : (longest : Seconds) (q : Request) (items : List ℕ) → requestVerdict longest q items ≡ Accepted → AllowedRequest longest q items
 unfolding requestVerdict
 request-accepted longest q items e =
     let h = all-held (requestTests true longest q items) e in
@@ -99,23 +100,23 @@ request-accepted longest q items e =
       some = not-true (cancelsNothing q) (h .1 .1 .0);
     }
 
-pub accepted-request : (longest : ℕ) (q : Request) (items : List ℕ) → AllowedRequest longest q items → requestVerdict longest q items ≡ Accepted
+pub accepted-request : (longest : Seconds) (q : Request) (items : List ℕ) → AllowedRequest longest q items → requestVerdict longest q items ≡ Accepted
 unfolding requestVerdict
 accepted-request longest q items a = rw (a .kind, a .area, a .limits, a .some)
 
 -- what is within a limit is within a longer one
-within-longer : (a b : ℕ) (q : Request) (items : List ℕ) → a ≤ b → withinLimits a q items ≡ true → withinLimits b q items ≡ true
+within-longer : (a b : Seconds) (q : Request) (items : List ℕ) → a .0 ≤ b .0 → withinLimits a q items ≡ true → withinLimits b q items ≡ true
 unfolding withinLimits
 within-longer a b q items h e =
     let w = both _ (every (λ x. ltb x (itemEnd (q .area))) items) e in
-    let start : not (eqb (q .kind) writeReplace) || leb (q .period .0) b && leb firstSib (q .sib) && leb (q .sib) lastSib ≡ true =
+    let start : not (eqb (q .kind) writeReplace) || leb (q .period .0) (b .0) && leb firstSib (q .sib) && leb (q .sib) lastSib ≡ true =
     else-or (not (eqb (q .kind) writeReplace)) _ λ n.
     let s = both _ (leb (q .sib) lastSib) (or-else (not (eqb (q .kind) writeReplace)) _ (w .0) n) in
-    let p = both (leb (q .period .0) a) (leb firstSib (q .sib)) (s .0) in
-    rw (le-leb (q .period .0) b (omega (arith, leb-true (q .period .0) a (p .0))), p .1, s .1) in
+    let p = both (leb (q .period .0) (a .0)) (leb firstSib (q .sib)) (s .0) in
+    rw (le-leb (q .period .0) (b .0) (omega (arith, leb-true (q .period .0) (a .0) (p .0))), p .1, s .1) in
     rw (start, w .1)
 
-pub allowed-longer : (a b : ℕ) (q : Request) (items : List ℕ) → a ≤ b → requestVerdict a q items ≡ Accepted → requestVerdict b q items ≡ Accepted
+pub allowed-longer : (a b : Seconds) (q : Request) (items : List ℕ) → a .0 ≤ b .0 → requestVerdict a q items ≡ Accepted → requestVerdict b q items ≡ Accepted
 allowed-longer a b q items h e =
     let r = request-accepted a q items e in
     accepted-request b q items

@@ -10,6 +10,8 @@ use Rattle.rules.specs.Layout.{placesPerCell, mostSent}
 use Rattle.rules.specs.Table.{isText, running}
 use Rattle.rules.specs.Record.{Kind, aWriteReplace, aCancel, aRestart, aFailure, aSecond, unknownKind, kindOf, concurrent, cancelAll, isPrimary}
 use Rattle.rules.specs.ZeroRules.{zeroRulesStop}
+use Rattle.rules.specs.declared.Seconds.{Seconds}
+use Rattle.rules.specs.declared.Broadcasts.{Broadcasts}
 use Rattle.rules.specs.declared.Place.{Place}
 use Rattle.rules.specs.declared.Request.{Request}
 
@@ -84,10 +86,14 @@ unfoldable pub isDue : Place → Bool
 isDue p = eqb (p .wait .0) 0
 
 -- one more, but it stays at 65,535
-unfoldable pub oneMore : ℕ → ℕ
-oneMore n = cond (ltb n mostSent) (n + 1) n
+unfoldable pub oneMore : Broadcasts → Broadcasts
+oneMore n = cond (ltb (n .0) mostSent) (record { 0 = n .0 + 1 }) n
 
-unfoldable pub withCounts : Place → ℕ → ℕ → Place
+-- one second nearer, and 0 stays 0
+abbrev pub oneLess : Seconds → Seconds
+oneLess n = record { 0 = n .0 - 1 }
+
+unfoldable pub withCounts : Place → Broadcasts → Seconds → Place
 withCounts p sent wait =
     record {
       identifier = p .identifier;
@@ -95,15 +101,15 @@ withCounts p sent wait =
       content = p .content;
       period = p .period;
       requested = p .requested;
-      sent = record { 0 = sent };
-      wait = record { 0 = wait };
+      sent = sent;
+      wait = wait;
       sib = p .sib;
     }
 
 -- a place after the second: broadcast once more and waiting anew, or one second nearer
 unfoldable pub later : Place → Place
 later p =
-    cond (isDue p) (withCounts p (oneMore (p .sent .0)) (p .period .0 - 1)) (withCounts p (p .sent .0) (p .wait .0 - 1))
+    cond (isDue p) (withCounts p (oneMore (p .sent)) (oneLess (p .period))) (withCounts p (p .sent) (oneLess (p .wait)))
 
 -- "if requested is not 0 and sent equals it"
 unfoldable pub hasEnded : Place → Bool

@@ -3,6 +3,7 @@ use mathlib.Core.List.{List, [], _∷_}
 use Prim.Native.Nat.{ℕ, _+_, _*_, _^_}
 use lib.ListN.{getD}
 use Rattle.octets.specs.Fields.{numbers}
+use Rattle.rules.specs.declared.Seconds.{Seconds}
 
 -- the number in the field at a place of its layout; beside each layout its fields have names in their order, counted from 0
 unfoldable pub fieldOf : List ℕ → ℕ → List ℕ → ℕ
@@ -65,9 +66,9 @@ abbrev pub secondsSize : Version → ℕ
 secondsSize version1 = 2
 secondsSize version2 = 4
 
-abbrev pub longestPeriod : Version → ℕ
-longestPeriod version1 = 4095
-longestPeriod version2 = 131071
+abbrev pub longestPeriod : Version → Seconds
+longestPeriod version1 = record { 0 = 4095 }
+longestPeriod version2 = record { 0 = 131071 }
 
 -- message identifier; serial number; content; period; requested; sent; wait; SIB kind; live; zero
 abbrev pub placeFields : Version → List ℕ

@@ -9,6 +9,7 @@ use Rattle.octets.specs.Numbers.{be, toBe}
 use Rattle.octets.specs.Fields.{bytesOf}
 use Rattle.rules.specs.Lists.{every, zeros, oneOf}
 use Rattle.rules.specs.Layout.{Version, version1, version2, longestPeriod, fieldOf, kindInRecord, flagsInRecord, areaInRecord, identifierInRecord, serialInRecord, contentInRecord, periodInRecord, requestedInRecord, sibInRecord, zeroInRecord, countInRecord, versionField, markField, recordFields, recordSize, itemSize, recordMark, recordVersion, firstSib, lastSib, primarySib, cellEnd, trackingEnd, emergencyEnd}
+use Rattle.rules.specs.declared.Seconds.{Seconds}
 use Rattle.rules.specs.declared.Request.{Request}
 
 -- ---- kinds and areas: their numbers, and what a number names
@@ -149,7 +150,7 @@ unfoldable pub renewed : List ℕ → List ℕ
 renewed r = take 3 r ++ (toBe 2 recordVersion ++ drop 5 r)
 
 -- what a record may ask for is said by its own version, whatever the table's
-abbrev pub longestAsked : List ℕ → ℕ
+abbrev pub longestAsked : List ℕ → Seconds
 longestAsked r = cond (eqb (versionIn r) 1) (longestPeriod version1) (longestPeriod version2)
 
 -- ---- the table of kinds
@@ -198,10 +199,10 @@ abbrev pub itemEnd : ℕ → ℕ
 itemEnd area = itemEndIn (areaOf area)
 
 -- a Write-Replace has a period that is not too long and SIB kind 6 to 8; no item is too large for its area
-unfoldable pub withinLimits : ℕ → Request → List ℕ → Bool
+unfoldable pub withinLimits : Seconds → Request → List ℕ → Bool
 withinLimits longest q items =
     (not (eqb (q .kind) writeReplace)
-    || leb (q .period .0) longest && leb firstSib (q .sib) && leb (q .sib) lastSib)
+    || leb (q .period .0) (longest .0) && leb firstSib (q .sib) && leb (q .sib) lastSib)
     && every (λ x. ltb x (itemEnd (q .area))) items
 
 -- "Cancel with neither flag 2 nor flag 4"

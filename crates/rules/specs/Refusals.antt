@@ -11,6 +11,7 @@ use Rattle.rules.specs.Layout.{Version, version1, versionNumber, current
 use Rattle.rules.specs.Table.{legalHead, identityAt, cellCount, tableMarked, legalTable}
 use Rattle.rules.specs.Record.{longestAsked, requestOf, zeroByte, itemCount, itemsOf, recordMarked, kindAllows, areaFits, withinLimits, cancelsNothing}
 use Rattle.rules.specs.Answer.{roomFor}
+use Rattle.rules.specs.declared.Seconds.{Seconds}
 use Rattle.rules.specs.declared.Request.{Request}
 use Rattle.rules.specs.declared.Refusal.{Refusal}
 use Rattle.rules.specs.declared.Refusal.the-variants.{TableMark, TableWrong, RecordMark, RecordLength, RecordFields, RecordLimits, CancelsNothing, ShortBuffer, BadHeads, ListDamaged, TooManySegments, NoSuchSegment}
@@ -115,7 +116,7 @@ abbrev pub tableTests : Version → List ℕ → List Test
 tableTests v t = test (tableMarked (versionNumber v) t) TableMark ∷ test (legalTable v t) TableWrong ∷ []
 
 -- 5, 6, 7: what is asked of the fields and the items, read or to be written, under a longest period
-abbrev pub requestTests : Bool → ℕ → Request → List ℕ → List Test
+abbrev pub requestTests : Bool → Seconds → Request → List ℕ → List Test
 requestTests zero longest q items =
     test (fieldsAllowed zero q (length items)) RecordFields
     ∷ test (withinLimits longest q items) RecordLimits
@@ -159,7 +160,7 @@ convertTests old room =
 unfoldable pub tableVerdict : Version → List ℕ → Verdict
 tableVerdict v t = firstOf (tableTests v t)
 
-unfoldable pub requestVerdict : ℕ → Request → List ℕ → Verdict
+unfoldable pub requestVerdict : Seconds → Request → List ℕ → Verdict
 requestVerdict longest q items = firstOf (requestTests true longest q items)
 
 unfoldable pub recordVerdict : Version → List ℕ → Verdict

@@ -110,7 +110,7 @@ placesOf v (b ∷ bs) = cond (isFree b) [] (placeOf v b ∷ placesOf v bs)
 -- period at most 4095, in version 2 at most 131,071; period 0 only with requested 1; wait below the larger of period and 1; sent below requested unless requested is 0; SIB kind 6 to 8
 unfoldable pub legalPlace : Version → Place → Bool
 legalPlace v p =
-    leb (p .period .0) (longestPeriod v)
+    leb (p .period .0) (longestPeriod v .0)
     && (not (eqb (p .period .0) 0) || eqb (p .requested .0) 1)
     && ltb (p .wait .0) (larger (p .period .0) 1)
     && (eqb (p .requested .0) 0 || ltb (p .sent .0) (p .requested .0))

@@ -15,6 +15,7 @@ use record::judge::names_text;
 use record::judge::text_within;
 use rules::Refusal;
 use rules::Request;
+use rules::Seconds;
 use rules::Verdict;
 use rules::kind::CANCEL_OR_KILL;
 use rules::kind::CELLS;
@@ -106,7 +107,7 @@ fn judged(request: Request, items: &[u64]) -> Verdict
     if !(kind_allows(request) & area_fits(request, items.len())) {
         return Verdict::Refused(Refusal::RecordFields);
     }
-    if !text_within(request, LONGEST_PERIOD) {
+    if !text_within(request, Seconds(LONGEST_PERIOD)) {
         return Verdict::Refused(Refusal::RecordLimits);
     }
     if !items_small(items, request.area) {
