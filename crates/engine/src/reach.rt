@@ -84,7 +84,8 @@ pub fn naming_of(cell: &[u8], area: u8) -> Naming
         return NO_KEY;
     }
     if area == CELLS {
-        return one(identity(cell));
+        let key = identity(cell);
+        return one(key.0);
     }
     if area == TRACKING_AREAS {
         return one(tracking(cell));

@@ -33,3 +33,4 @@ pub mod ZerosLaws
 pub mod OffsetLaws
 pub mod FieldLaws
 pub mod OnceLaws
+pub mod IdentityLaws
