@@ -10,7 +10,7 @@ use lib.Seq.{length-take-le, take-at, drop-at}
 use Rattle.octets.specs.Runs.{gets, Bytes}
 use Rattle.octets.specs.Fields.{size, numbers}
 use Rattle.octets.proofs.RunsLaws.{length-pieces, pieces-flat, bytes-take}
-use Rattle.octets.proofs.FieldsLaws.{fit-numbers, length-filled}
+use Rattle.octets.proofs.FieldsLaws.{fit-numbers, length-padded}
 use Rattle.octets.proofs.PartsLaws.{fit-set}
 use Rattle.rules.specs.Layout as layout
 use Rattle.rules.specs.Layout.{current, placeFields, sentInPlace, waitInPlace, headSize, placeSize, placesPerCell, cellSize}
@@ -19,11 +19,11 @@ use Rattle.rules.specs.InCell.{withCounts}
 use Rattle.rules.specs.declared.Seconds.{Seconds}
 use Rattle.rules.specs.declared.Broadcasts.{Broadcasts}
 use Rattle.rules.specs.declared.Place.{Place}
-use Rattle.rules.proofs.AllLaws.{All, none, more, all-of, all-map, all-filled}
-use Rattle.rules.proofs.JoinedLaws.{all-at, joined, Wide, joined-gets, getD-filled, getD-spare, getD-map}
+use Rattle.rules.proofs.AllLaws.{All, none, more, all-of, all-map, all-padded}
+use Rattle.rules.proofs.JoinedLaws.{all-at, joined, Wide, joined-gets, getD-padded, getD-spare, getD-map}
 use Rattle.rules.proofs.FitLaws.{Fit-fits, fits-Fit}
 use Rattle.rules.proofs.HeadCodec.{head-back}
-use Rattle.rules.proofs.PlaceCodec.{FitPlace, PlaceRun, runsOf, length-placeBytes, length-placesBytes, runs-of-places, places-filled, places-back, legal-places}
+use Rattle.rules.proofs.PlaceCodec.{FitPlace, PlaceRun, runsOf, length-placeBytes, length-placesBytes, runs-of-places, places-padded, places-back, legal-places}
 use Rattle.rules.proofs.CellCodec.{legal-cell, cell-runs}
 use Rattle.cell.specs.Places.{livePlaces, withPlaces, Formed, noPlace, placeAt, LiveAt}
 
@@ -52,7 +52,7 @@ module _ (c : List ℕ) (long : length c ≡ cellSize current) (ps : List Place)
 
   module _ (fit : All (FitPlace current) ps) (few : length ps ≤ placesPerCell) where
     pub withPlaces-live : livePlaces (withPlaces c ps) ≡ ps
-    withPlaces-live = rw (behind-withPlaces, runs-of-places current ps) (places-filled current placesPerCell few fit)
+    withPlaces-live = rw (behind-withPlaces, runs-of-places current ps) (places-padded current placesPerCell few fit)
 
     pub withPlaces-formed : Formed (withPlaces c ps)
     withPlaces-formed =
@@ -142,7 +142,7 @@ fit-counts p fit sent wait s w =
 
 pub wide-runs : (ps : List Place) → Wide (placeSize current) (runsOf current ps)
 wide-runs ps =
-    all-filled placesPerCell (freeBytes current) refl (all-map (λ b. length b ≡ placeSize current) (placeBytes current) (all-of (length-placeBytes current) ps))
+    all-padded placesPerCell (freeBytes current) refl (all-map (λ b. length b ≡ placeSize current) (placeBytes current) (all-of (length-placeBytes current) ps))
 
 -- behind the head stand the runs
 pub withPlaces-runs : (c : List ℕ) (ps : List Place) → withPlaces c ps ≡ take headSize c ++ joined (runsOf current ps)
@@ -154,7 +154,7 @@ unfolding placeAt
 live-run c k at =
     let n : length (map (placeBytes current) (livePlaces c)) ≡ length (livePlaces c) = length-map (livePlaces c) (placeBytes current) in
     let live = at .live in
-    getD-filled (freeBytes current) placesPerCell k (map (placeBytes current) (livePlaces c)) [] (omega arith) (at .few)
+    getD-padded (freeBytes current) placesPerCell k (map (placeBytes current) (livePlaces c)) [] (omega arith) (at .few)
     ∙ getD-map (placeBytes current) (livePlaces c) k noPlace [] (at .live)
 
 pub free-run : (c : List ℕ) (k : ℕ) → length (livePlaces c) ≤ k → k < placesPerCell → getD (runsOf current (livePlaces c)) k [] ≡ freeBytes current
@@ -166,7 +166,7 @@ free-run c k h room =
 run-gets : (c : List ℕ) → Formed c → (k j m : ℕ) → k < placesPerCell → j + m ≤ placeSize current
     → gets c (headSize + placeSize current * k + j) m ≡ gets (getD (runsOf current (livePlaces c)) k []) j m
 run-gets c formed k j m room fits-in =
-    let n : length (runsOf current (livePlaces c)) ≡ placesPerCell = length-filled placesPerCell (freeBytes current) (map (placeBytes current) (livePlaces c)) in
+    let n : length (runsOf current (livePlaces c)) ≡ placesPerCell = length-padded placesPerCell (freeBytes current) (map (placeBytes current) (livePlaces c)) in
     ap (λ (l : List ℕ). gets l (headSize + placeSize current * k + j) m) (formed .whole ∙ withPlaces-runs c (livePlaces c))
     ∙ joined-gets (placeSize current) (wide-runs (livePlaces c)) (take headSize c) headSize k j m (headSize + placeSize current * k + j) (head-long c (formed .size)) (omega arith) fits-in refl
 

@@ -7,7 +7,7 @@ use native.Mathlib.Omega.{arith}
 use lib.ListN.{getD}
 use Rattle.octets.specs.Runs.{Bytes, gets, pieces}
 use Rattle.octets.specs.Numbers.{be, toBe}
-use Rattle.octets.specs.Fields.{size, numbers, bytesOf, filled}
+use Rattle.octets.specs.Fields.{size, numbers, bytesOf, padded}
 use Rattle.rules.specs.Lists.{every, any, those, zeros, oneOf, above, ascending}
 use Rattle.rules.specs.Layout.{current, fieldOf, headerSize, headSize, cellSize}
 use Rattle.rules.specs.Table.{headOf, headNumbers, headBytes, legalHead, placeOf, placeNumbers, placeBytes, isFree, isLive, liveFirst, placesOf, legalPlace, isText, running, different, legalPlaces, cellOf, placesBytes, cellBytes, legalCell, cellsOf, headerBytes, tableBytes, tableMarked, legalTable}
@@ -46,7 +46,7 @@ record Computed : Type 0 where
   stopping-bytes : Bytes stopping
 
 computed : Computed
-unfolding flatMap gets pieces be toBe size numbers bytesOf filled every any those zeros oneOf above ascending fieldOf headOf headNumbers headBytes legalHead placeOf placeNumbers placeBytes isFree isLive liveFirst placesOf legalPlace isText running different legalPlaces cellOf placesBytes cellBytes legalCell cellsOf headerBytes tableBytes tableMarked legalTable requestOf itemsOf recordMarked allowed kindAllows areaFits withinLimits cancelsNothing names reaches startsNothing newPlace start cancel inCell rowBytes answerHead answerBytes roomFor tableVerdict requestVerdict recordVerdict applyVerdict stepCell cellRows outcome applied
+unfolding flatMap gets pieces be toBe size numbers bytesOf padded every any those zeros oneOf above ascending fieldOf headOf headNumbers headBytes legalHead placeOf placeNumbers placeBytes isFree isLive liveFirst placesOf legalPlace isText running different legalPlaces cellOf placesBytes cellBytes legalCell cellsOf headerBytes tableBytes tableMarked legalTable requestOf itemsOf recordMarked allowed kindAllows areaFits withinLimits cancelsNothing names reaches startsNothing newPlace start cancel inCell rowBytes answerHead answerBytes roomFor tableVerdict requestVerdict recordVerdict applyVerdict stepCell cellRows outcome applied
 computed =
     record {
       started = refl;

@@ -13,7 +13,7 @@ use borrow.Author.Tests.{leb-true, le-leb, eqb-true}
 use Rattle.octets.proofs.FieldsLaws.{numbers-append}
 use Rattle.rules.specs.Layout.{current, versionNumber, fieldOf, markField, recordFields, recordSize, recordMark, itemSize, mostItems}
 use Rattle.rules.specs.Table.{tableMarked, legalTable}
-use Rattle.rules.specs.Record.{versionIn, takes, requestOf, itemCount, itemsOf, recordMarked}
+use Rattle.rules.specs.Record.{versionIn, takesVersion, requestOf, itemCount, itemsOf, recordMarked}
 use Rattle.rules.specs.Refusals.{verdictNumber, _then_, tableVerdict, recordVerdict, applyVerdict}
 use Rattle.rules.specs.Applied.{outcome, applied}
 use Rattle.rules.specs.declared.Request.{Request}
@@ -94,7 +94,7 @@ stops-4 = refl
 long-marked : (l : List ℕ) → recordMarked current l ≡ true → recordSize ≤ length l
 unfolding recordMarked
 long-marked l e =
-    let m = both (leb recordSize (length l) && eqb (fieldOf recordFields markField l) recordMark) (takes current (versionIn l)) e in
+    let m = both (leb recordSize (length l) && eqb (fieldOf recordFields markField l) recordMark) (takesVersion current (versionIn l)) e in
     leb-true recordSize (length l) (both (leb recordSize (length l)) (eqb (fieldOf recordFields markField l) recordMark) (m .0) .0)
 
 -- what is shorter than its own size is refused by its mark or its length

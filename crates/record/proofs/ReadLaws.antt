@@ -14,7 +14,7 @@ use Rattle.octets.specs.Runs.{Bytes, gets, pieces}
 use Rattle.octets.specs.Numbers.{be}
 use Rattle.octets.specs.Fields.{offset}
 use Rattle.rules.specs.Layout.{current, fieldOf, markField, recordFields, recordSize, itemSize, recordMark, mostItems}
-use Rattle.rules.specs.Record.{versionIn, takes, longestAsked, identifierToSib, cancelZeros, notified, requestOf, itemsOf, itemCount, zeroByte, recordMarked}
+use Rattle.rules.specs.Record.{versionIn, takesVersion, longestAsked, identifierToSib, cancelZeros, notified, requestOf, itemsOf, itemCount, zeroByte, recordMarked}
 use Rattle.rules.specs.Refusals.{requestVerdict, recordVerdict}
 use Rattle.rules.specs.Applied.{readBy, reading, readOf}
 use Rattle.rules.specs.declared.Request.{Request}
@@ -114,7 +114,7 @@ module _ (r : List ℕ) {marked : Bool} (m : marked ≡ recordMarked current r) 
     pub long-enough : recordSize ≤ length r
     unfolding recordMarked
     long-enough =
-        let h = both (leb recordSize (length r) && eqb (fieldOf recordFields markField r) recordMark) (takes current (versionIn r)) (sym m ∙ not-false marked right) in
+        let h = both (leb recordSize (length r) && eqb (fieldOf recordFields markField r) recordMark) (takesVersion current (versionIn r)) (sym m ∙ not-false marked right) in
         leb-true recordSize (length r) (both (leb recordSize (length r)) (eqb (fieldOf recordFields markField r) recordMark) (h .0) .0)
 
     module _ {n : ℕ} (c : n ≡ itemCount r) where

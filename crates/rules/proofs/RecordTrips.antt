@@ -15,7 +15,7 @@ use Rattle.octets.proofs.NumbersLaws.{length-toBe}
 use Rattle.octets.proofs.FieldsLaws.{length-bytesOf}
 use Rattle.rules.specs.Lists.{every}
 use Rattle.rules.specs.Layout.{Version, version1, version2, current, fieldOf, markField, recordFields, recordSize, itemSize, recordMark, mostItems, longestPeriod, firstSib, lastSib}
-use Rattle.rules.specs.Record.{writeReplace, versionIn, takes, longestAsked, requestOf, requestNumbers, recordBytes, itemsOf, itemCount, zeroByte, recordMarked, kindAllows, areaFits, itemEndIn, itemEnd, withinLimits, cancelsNothing}
+use Rattle.rules.specs.Record.{writeReplace, versionIn, takesVersion, longestAsked, requestOf, requestNumbers, recordBytes, itemsOf, itemCount, zeroByte, recordMarked, kindAllows, areaFits, itemEndIn, itemEnd, withinLimits, cancelsNothing}
 use Rattle.rules.specs.Refusals.{refuseUnless, fewItems, recordTests, requestVerdict, recordVerdict, writeVerdict}
 use Rattle.rules.specs.Sound.{fits, fitRequest}
 use Rattle.rules.specs.declared.Seconds.{Seconds}
@@ -36,7 +36,7 @@ use Rattle.rules.proofs.RecordCodec.{field-again, request-again, items-
 pub record AcceptedRecord (v : Version) (r : List ℕ) : Type 0 where
   pub long : recordSize ≤ length r
   pub mark : fieldOf recordFields markField r ≡ recordMark
-  pub version : takes v (versionIn r) ≡ true
+  pub version : takesVersion v (versionIn r) ≡ true
   pub few : itemCount r ≤ mostItems
   pub size : length r ≡ recordSize + itemSize * itemCount r
   pub zero : zeroByte r ≡ 0
@@ -48,7 +48,7 @@ record-accepted v r e =
     let h = all-held (recordTests v r) e in
     let f = both (eqb (zeroByte r) 0 && kindAllows (requestOf r)) (areaFits (requestOf r) (length (itemsOf r))) (h .1 .1 .0) in
     let z = both (eqb (zeroByte r) 0) (kindAllows (requestOf r)) (f .0) in
-    let m₂ = both (leb recordSize (length r) && eqb (fieldOf recordFields markField r) recordMark) (takes v (versionIn r)) (h .0) in
+    let m₂ = both (leb recordSize (length r) && eqb (fieldOf recordFields markField r) recordMark) (takesVersion v (versionIn r)) (h .0) in
     let m₁ = both (leb recordSize (length r)) (eqb (fieldOf recordFields markField r) recordMark) (m₂ .0) in
     let l₁ = both (leb (itemCount r) mostItems) (eqb (length r) (recordSize + itemSize * itemCount r)) (h .1 .0) in
     record {
@@ -74,7 +74,7 @@ accepted-record v r a =
     rw (le-leb recordSize (length r) (a .long), eq-eqb _ _ (a .mark), a .version, le-leb _ _ (a .few), eq-eqb _ _ (a .size), eq-eqb _ _ (a .zero)) (a .request)
 
 -- so no record asks for more than its unit allows
-asked : (v : Version) (n : ℕ) → takes v n ≡ true → cond (eqb n 1) (longestPeriod version1) (longestPeriod version2) .0 ≤ longestPeriod v .0
+asked : (v : Version) (n : ℕ) → takesVersion v n ≡ true → cond (eqb n 1) (longestPeriod version1) (longestPeriod version2) .0 ≤ longestPeriod v .0
 asked version1 n e = rw e (omega arith)
 asked version2 n e = cond-either (λ (x : Seconds). x .0 ≤ longestPeriod version2 .0) (eqb n 1) _ _ (λ _. omega arith) (λ _. omega arith)
 

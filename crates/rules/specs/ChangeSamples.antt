@@ -4,18 +4,18 @@ use mathlib.Core.List.{List, [], _∷_, _++_}
 use Prim.Native.Nat.{ℕ}
 use lib.ListN.{replicate}
 use Rattle.rules.specs.Applied.{Filled, Outcome, conversion}
-use Rattle.rules.specs.ByHand.{word, long, head, textOf, text, free, requestIn, startsOf, passes, answers, says, run, refuses, leaves, one, Sample, sample, AllHold}
+use Rattle.rules.specs.ByHand.{word, long, head, textOfSib, text, free, requestIn, startsOf, passes, answers, says, outcomesOf, refuses, leaves, one, Sample, sample, AllHold}
 use Rattle.rules.specs.Samples.{four}
 
 -- ---- 2/13: an earthquake primary goes out every second until it is stopped
 
 -- a counted primary that stands in a table, sent once
 abbrev pub counted : ℕ → List ℕ
-counted wait = one (textOf 6 4370 7 5 2 1 wait ++ free 3)
+counted wait = one (textOfSib 6 4370 7 5 2 1 wait ++ free 3)
 
 -- 4370/16 as a primary's start leaves it
 abbrev pub primary : ℕ → List ℕ
-primary sent = one (textOf 6 4370 7 1 0 sent 0 ++ free 3)
+primary sent = one (textOfSib 6 4370 7 1 0 sent 0 ++ free 3)
 
 -- requested 0, flag 1 absent: starts
 abbrev pub primaryUncounted : Sample
@@ -56,7 +56,7 @@ primaryTooLong = sample (one (free 4)) (startsOf 6 0 4370 7 131072 2) [] (refuse
 abbrev pub sib7Stored : Sample
 sib7Stored =
     sample (one (free 4)) (startsOf 7 0 4370 7 5 2) []
-    (leaves (one (textOf 7 4370 7 5 2 0 0 ++ free 3)) (answers 1 4370 16 1 ++ says 16 0 0))
+    (leaves (one (textOfSib 7 4370 7 5 2 0 0 ++ free 3)) (answers 1 4370 16 1 ++ says 16 0 0))
 
 abbrev pub sib7Stopped : Sample
 sib7Stopped = sample (one (free 4)) (startsOf 7 0 4370 7 0 2) [] (leaves (one (free 4)) (answers 1 4370 16 0))
@@ -147,7 +147,7 @@ abbrev pub lent : List ℕ
 lent = replicate 142 9
 
 abbrev pub filledWith : ℕ → ℕ → List ℕ → Filled
-filledWith number length buffer = record { number = number; length = length; buffer = buffer }
+filledWith number bytes buffer = record { number = number; length = bytes; buffer = buffer }
 
 pub record Converts : Type 0 where
   -- every field is carried, and the bytes behind stay
@@ -164,6 +164,6 @@ pub record Converts : Type 0 where
 
 pub record ChangeSamplesHold : Type 0 where
   pub primaries : AllHold primarySamples
-  pub primary-runs : run (one (free 4)) primaryStory ≡ primaryGives
+  pub primary-runs : outcomesOf (one (free 4)) primaryStory ≡ primaryGives
   pub periods : AllHold periodSamples
   pub converts : Converts

@@ -137,13 +137,13 @@ abbrev pub versionIn : List ℕ → ℕ
 versionIn r = fieldOf recordFields versionField r
 
 -- records of a version are taken by it and by later ones
-abbrev pub takes : Version → ℕ → Bool
-takes version1 n = eqb n 1
-takes version2 n = eqb n 1 || eqb n 2
+abbrev pub takesVersion : Version → ℕ → Bool
+takesVersion version1 n = eqb n 1
+takesVersion version2 n = eqb n 1 || eqb n 2
 
 unfoldable pub recordMarked : Version → List ℕ → Bool
 recordMarked v r =
-    leb recordSize (length r) && eqb (fieldOf recordFields markField r) recordMark && takes v (versionIn r)
+    leb recordSize (length r) && eqb (fieldOf recordFields markField r) recordMark && takesVersion v (versionIn r)
 
 -- the same record in the version that the writer writes
 unfoldable pub renewed : List ℕ → List ℕ

@@ -4,7 +4,7 @@ use mathlib.Core.List.{List, [], _∷_, _++_}
 use Prim.Native.Nat.{ℕ}
 use lib.ListN.{replicate}
 use Rattle.rules.specs.Applied.{Outcome, built}
-use Rattle.rules.specs.ByHand.{header, identity, head, text, free, request, starts, cancels, passes, answers, says, run, refuses, leaves, one, Sample, sample, AllHold}
+use Rattle.rules.specs.ByHand.{header, identity, head, text, free, request, starts, cancels, passes, answers, says, outcomesOf, refuses, leaves, one, Sample, sample, AllHold}
 
 -- ---- P1 to P13
 
@@ -191,4 +191,4 @@ pub record SamplesHold : Type 0 where
   pub further : AllHold furtherSamples
   pub builds : built (head 16 1 ++ head 32 2) (replicate 262 9)
       ≡ record { number = 0; length = 256; buffer = two (free 4) (free 4) ++ replicate 6 9 }
-  pub runs : run (two (free 4) (free 4)) example ≡ exampleGives
+  pub runs : outcomesOf (two (free 4) (free 4)) example ≡ exampleGives

@@ -5,7 +5,7 @@ use Prim.Native.Nat.{ℕ, _+_, _*_}
 use lib.Dec.{eqb, ltb, leb}
 use lib.ListN.{length, take, drop, replicate}
 use Rattle.octets.specs.Runs.{pieces}
-use Rattle.octets.specs.Fields.{numbers, bytesOf, filled}
+use Rattle.octets.specs.Fields.{numbers, bytesOf, padded}
 use Rattle.rules.specs.Lists.{every, any, zeros, ascending, larger}
 use Rattle.rules.specs.Layout.{Version, versionNumber, fieldOf, identityInHead, codeInHead, areasUsedInHead, areasInHead, identifierInPlace, serialInPlace, contentInPlace, periodInPlace, requestedInPlace, sentInPlace, waitInPlace, sibInPlace, liveInPlace, zeroInPlace, cellsInHeader, markField, versionField, placesInHeader, zeroInHeader, headerFields, headFields, placeFields, placesPerCell, mostAreas, headerSize, headSize, placeSize, cellSize, tableMark, mostCells, longestPeriod, firstSib, lastSib, cellEnd}
 use Rattle.rules.specs.declared.Place.{Place}
@@ -41,7 +41,7 @@ headOf b =
     }
 
 unfoldable pub headNumbers : Head → List ℕ
-headNumbers h = h .identity ∷ h .code ∷ length (h .areas) ∷ filled mostAreas 0 (h .areas)
+headNumbers h = h .identity ∷ h .code ∷ length (h .areas) ∷ padded mostAreas 0 (h .areas)
 
 unfoldable pub headBytes : Head → List ℕ
 headBytes h = bytesOf headFields (headNumbers h)
@@ -141,7 +141,7 @@ cellOf v c = record { head = headOf (take headSize c); places = placesOf v (plac
 
 -- the live places first, then free ones
 unfoldable pub placesBytes : Version → List Place → List ℕ
-placesBytes v ps = flatMap (λ b. b) (filled placesPerCell (freeBytes v) (map (placeBytes v) ps))
+placesBytes v ps = flatMap (λ b. b) (padded placesPerCell (freeBytes v) (map (placeBytes v) ps))
 
 unfoldable pub cellBytes : Version → Cell → List ℕ
 cellBytes v c = headBytes (c .head) ++ placesBytes v (c .places)
