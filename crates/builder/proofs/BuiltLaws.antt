@@ -9,7 +9,7 @@ use borrow.Author.Tests.{le-leb, lt-leb, not-true, not-false}
 use lib.ListN.{length, length-map}
 use lib.Seq.{sets}
 use Rattle.octets.specs.Runs.{Bytes}
-use Rattle.octets.specs.Fields.{filled}
+use Rattle.octets.specs.Fields.{padded}
 use Rattle.octets.proofs.RunsLaws.{length-pieces, sets-run}
 use Rattle.rules.specs.Layout.{current, headerSize, headSize, cellSize, mostCells}
 use Rattle.rules.specs.Table.{Cell, legalHead, headerBytes, placesBytes, cellBytes, tableBytes}
@@ -26,7 +26,7 @@ use Rattle.builder.specs.Build.{emptyRun}
 -- ---- the bytes of empty cells
 
 empty-run : (b : List ℕ) → Bytes b → length b ≡ headSize → legalHead b ≡ true → cellBytes current (emptyCell b) ≡ emptyRun b
-unfolding cellBytes emptyCell placesBytes filled flatMap emptyRun
+unfolding cellBytes emptyCell placesBytes padded flatMap emptyRun
 empty-run b h n l = rw (head-back b h n l)
 
 module _ (heads : List ℕ) (bytes : Bytes heads) (legal : legalHeads heads ≡ true) where

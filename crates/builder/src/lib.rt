@@ -14,6 +14,7 @@ ghost use Rattle.builder.specs.Build.{emptyRun};
 use octets::get64;
 use octets::put64;
 use rules::Answer;
+use rules::CellIdentity;
 use rules::Refusal;
 use rules::layout::CELL;
 use rules::layout::HEAD;
@@ -68,14 +69,14 @@ fn heads_in_order(heads: &[u8], count: usize) -> bool
     let mut least: u64 = 0;
     while at < heads.len() {
         let end = at + HEAD;
-        let identity = get64(heads, at);
-        if identity < least {
+        let identity = CellIdentity(get64(heads, at));
+        if identity.0 < least {
             return false;
         }
         if !head_legal(&heads[at..end]) {
             return false;
         }
-        least = identity + 1;
+        least = identity.0 + 1;
         at = end;
     }
     true

@@ -10,18 +10,20 @@ use lib.Seq.{length-take-le, take-at, drop-at}
 use Rattle.octets.specs.Runs.{gets, Bytes}
 use Rattle.octets.specs.Fields.{size, numbers}
 use Rattle.octets.proofs.RunsLaws.{length-pieces, pieces-flat, bytes-take}
-use Rattle.octets.proofs.FieldsLaws.{fit-numbers, length-filled}
+use Rattle.octets.proofs.FieldsLaws.{fit-numbers, length-padded}
 use Rattle.octets.proofs.PartsLaws.{fit-set}
 use Rattle.rules.specs.Layout as layout
-use Rattle.rules.specs.Layout.{current, placeFields, headSize, placeSize, placesPerCell, cellSize}
+use Rattle.rules.specs.Layout.{current, placeFields, sentInPlace, waitInPlace, headSize, placeSize, placesPerCell, cellSize}
 use Rattle.rules.specs.Table.{headOf, legalHead, placeOf, placeNumbers, placeBytes, freeBytes, isFree, liveFirst, placesOf, placeRuns, placesBytes, cellBytes, legalCell}
 use Rattle.rules.specs.InCell.{withCounts}
+use Rattle.rules.specs.declared.Seconds.{Seconds}
+use Rattle.rules.specs.declared.Broadcasts.{Broadcasts}
 use Rattle.rules.specs.declared.Place.{Place}
-use Rattle.rules.proofs.AllLaws.{All, none, more, all-of, all-map, all-filled}
-use Rattle.rules.proofs.JoinedLaws.{all-at, joined, Wide, joined-gets, getD-filled, getD-spare, getD-map}
+use Rattle.rules.proofs.AllLaws.{All, none, more, all-of, all-map, all-padded}
+use Rattle.rules.proofs.JoinedLaws.{all-at, joined, Wide, joined-gets, getD-padded, getD-spare, getD-map}
 use Rattle.rules.proofs.FitLaws.{Fit-fits, fits-Fit}
 use Rattle.rules.proofs.HeadCodec.{head-back}
-use Rattle.rules.proofs.PlaceCodec.{FitPlace, PlaceRun, runsOf, length-placeBytes, length-placesBytes, runs-of-places, places-filled, places-back, legal-places}
+use Rattle.rules.proofs.PlaceCodec.{FitPlace, PlaceRun, runsOf, length-placeBytes, length-placesBytes, runs-of-places, places-padded, places-back, legal-places}
 use Rattle.rules.proofs.CellCodec.{legal-cell, cell-runs}
 use Rattle.cell.specs.Places.{livePlaces, withPlaces, Formed, noPlace, placeAt, LiveAt}
 
@@ -50,7 +52,7 @@ module _ (c : List ℕ) (long : length c ≡ cellSize current) (ps : List Place)
 
   module _ (fit : All (FitPlace current) ps) (few : length ps ≤ placesPerCell) where
     pub withPlaces-live : livePlaces (withPlaces c ps) ≡ ps
-    withPlaces-live = rw (behind-withPlaces, runs-of-places current ps) (places-filled current placesPerCell few fit)
+    withPlaces-live = rw (behind-withPlaces, runs-of-places current ps) (places-padded current placesPerCell few fit)
 
     pub withPlaces-formed : Formed (withPlaces c ps)
     withPlaces-formed =
@@ -81,7 +83,7 @@ live-few c = rw length-pieces at (few-places (placeRuns current c))
 
 -- the numbers of a place are those that its bytes say, with the mark of a live one
 marked : (b : List ℕ) → placeNumbers (placeOf current b) ≡ set (set (numbers (placeFields current) b) 8 1) 9 0
-unfolding placeNumbers placeOf numbers layout.field
+unfolding placeNumbers placeOf numbers layout.fieldOf
 marked b = refl
 
 -- whatever bytes say fits the fields
@@ -127,20 +129,20 @@ pub fit-at : (c : List ℕ) → Bytes c → (k : ℕ) → LiveAt c k → FitPlac
 unfolding placeAt
 fit-at c bytes k at = all-at (live-fit c bytes (at .formed .size)) k noPlace (at .live)
 
-pub counted : (p : Place) (sent wait : ℕ) → placeNumbers (withCounts p sent wait) ≡ set (set (placeNumbers p) 5 sent) 6 wait
+pub counted : (p : Place) (sent : Broadcasts) (wait : Seconds) → placeNumbers (withCounts p sent wait) ≡ set (set (placeNumbers p) sentInPlace (sent .0)) waitInPlace (wait .0)
 unfolding placeNumbers withCounts
 counted p sent wait = refl
 
-pub fit-counts : (p : Place) → FitPlace current p → (sent wait : ℕ) → sent < 256 ^ 2 → wait < 256 ^ 4 → FitPlace current (withCounts p sent wait)
+pub fit-counts : (p : Place) → FitPlace current p → (sent : Broadcasts) (wait : Seconds) → sent .0 < 256 ^ 2 → wait .0 < 256 ^ 4 → FitPlace current (withCounts p sent wait)
 fit-counts p fit sent wait s w =
     Fit-fits (placeFields current) (placeNumbers (withCounts p sent wait))
-    (rw (counted p sent wait) (fit-set (fit-set (fits-Fit (placeFields current) (placeNumbers p) fit) 5 sent s) 6 wait w))
+    (rw (counted p sent wait) (fit-set (fit-set (fits-Fit (placeFields current) (placeNumbers p) fit) sentInPlace (sent .0) s) waitInPlace (wait .0) w))
 
 -- ---- the bytes of one place
 
 pub wide-runs : (ps : List Place) → Wide (placeSize current) (runsOf current ps)
 wide-runs ps =
-    all-filled placesPerCell (freeBytes current) refl (all-map (λ b. length b ≡ placeSize current) (placeBytes current) (all-of (length-placeBytes current) ps))
+    all-padded placesPerCell (freeBytes current) refl (all-map (λ b. length b ≡ placeSize current) (placeBytes current) (all-of (length-placeBytes current) ps))
 
 -- behind the head stand the runs
 pub withPlaces-runs : (c : List ℕ) (ps : List Place) → withPlaces c ps ≡ take headSize c ++ joined (runsOf current ps)
@@ -152,7 +154,7 @@ unfolding placeAt
 live-run c k at =
     let n : length (map (placeBytes current) (livePlaces c)) ≡ length (livePlaces c) = length-map (livePlaces c) (placeBytes current) in
     let live = at .live in
-    getD-filled (freeBytes current) placesPerCell k (map (placeBytes current) (livePlaces c)) [] (omega arith) (at .few)
+    getD-padded (freeBytes current) placesPerCell k (map (placeBytes current) (livePlaces c)) [] (omega arith) (at .few)
     ∙ getD-map (placeBytes current) (livePlaces c) k noPlace [] (at .live)
 
 pub free-run : (c : List ℕ) (k : ℕ) → length (livePlaces c) ≤ k → k < placesPerCell → getD (runsOf current (livePlaces c)) k [] ≡ freeBytes current
@@ -164,7 +166,7 @@ free-run c k h room =
 run-gets : (c : List ℕ) → Formed c → (k j m : ℕ) → k < placesPerCell → j + m ≤ placeSize current
     → gets c (headSize + placeSize current * k + j) m ≡ gets (getD (runsOf current (livePlaces c)) k []) j m
 run-gets c formed k j m room fits-in =
-    let n : length (runsOf current (livePlaces c)) ≡ placesPerCell = length-filled placesPerCell (freeBytes current) (map (placeBytes current) (livePlaces c)) in
+    let n : length (runsOf current (livePlaces c)) ≡ placesPerCell = length-padded placesPerCell (freeBytes current) (map (placeBytes current) (livePlaces c)) in
     ap (λ (l : List ℕ). gets l (headSize + placeSize current * k + j) m) (formed .whole ∙ withPlaces-runs c (livePlaces c))
     ∙ joined-gets (placeSize current) (wide-runs (livePlaces c)) (take headSize c) headSize k j m (headSize + placeSize current * k + j) (head-long c (formed .size)) (omega arith) fits-in refl
 

@@ -122,11 +122,11 @@ module _ (c : List ℕ) (long : length c ≡ cellSize current) where
       rw (numbers-take headFields c headSize (omega arith)) (number-at headFields c f h (omega arith))
 
   pub identity-read : headOf (take headSize c) .identity ≡ be (gets c 0 8)
-  unfolding headOf layout.field offset
+  unfolding headOf layout.fieldOf offset
   identity-read = head-read 0 (omega arith)
 
   pub code-read : headOf (take headSize c) .code ≡ be (gets c 8 3)
-  unfolding headOf layout.field offset
+  unfolding headOf layout.fieldOf offset
   code-read = head-read 1 (omega arith)
 
   four : (b : List ℕ)
@@ -136,7 +136,7 @@ module _ (c : List ℕ) (long : length c ≡ cellSize current) where
 
   pub areas-read : (a : Areas) → a .used ≡ be (gets c 11 1) → a .first ≡ be (gets c 12 3) → a .second ≡ be (gets c 15 3) → a .third ≡ be (gets c 18 3) → a .fourth ≡ be (gets c 21 3)
       → HeadAreas (take headSize c) a
-  unfolding headOf areasIn layout.field offset
+  unfolding headOf areasIn layout.fieldOf offset
   areas-read a u e₁ e₂ e₃ e₄ =
       let b : List ℕ = take headSize c in
       let used : a .used ≡ areasUsed b = u ∙ sym (head-read 2 (omega arith)) in

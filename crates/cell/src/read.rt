@@ -166,11 +166,11 @@ pub struct Areas {
     pub fourth: u32,
 }
 
-pub fn identity(cell: &[u8]) -> u64
+pub fn identity(cell: &[u8]) -> CellIdentity
     requires { ⌜ length (now cell) ≡ cellSize current ⌝ }
-    ensures { λ r. ⌜ r ≡ headOf (take headSize (now (cell .entry))) .identity ⌝ }
+    ensures { λ r. ⌜ r ≡ record { 0 = headOf (take headSize (now (cell .entry))) .identity } ⌝ }
 {
-    get64(cell, 0)
+    CellIdentity(get64(cell, 0))
 }
 
 // The item that names the cell's tracking area.
@@ -178,7 +178,8 @@ pub fn tracking(cell: &[u8]) -> u64
     requires { ⌜ length (now cell) ≡ cellSize current ⌝ }
     ensures { λ r. ⌜ r ≡ trackingItem (headOf (take headSize (now (cell .entry))) .identity) (headOf (take headSize (now (cell .entry))) .code) ⌝ }
 {
-    CellIdentity(identity(cell)).tracking_item(get24(cell, CODE_AT))
+    let identity = identity(cell);
+    identity.tracking_item(get24(cell, CODE_AT))
 }
 
 pub fn areas_of(cell: &[u8]) -> Areas

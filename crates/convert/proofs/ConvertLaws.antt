@@ -12,7 +12,7 @@ use Rattle.octets.specs.Numbers.{be}
 use Rattle.octets.proofs.RunsLaws.{sets-run}
 use Rattle.rules.specs.Layout.{version1, current, headerSize, cellSize, mostCells}
 use Rattle.rules.specs.Table.{cellCount, cellOf, cellBytes, cellRuns, cellsOf, headerBytes, tableBytes}
-use Rattle.rules.specs.Refusals.{tableVerdict, convertVerdict}
+use Rattle.rules.specs.Refusals.{tableVerdict}
 use Rattle.rules.specs.Applied.{filledBy, fill, converted, conversion}
 use Rattle.rules.specs.declared.Refusal.{Refusal}
 use Rattle.rules.specs.declared.Refusal.the-variants.{ShortBuffer}
@@ -21,6 +21,7 @@ use Rattle.rules.specs.declared.Answer.the-variants.{Written, Nothing}
 use Rattle.rules.proofs.ListsLaws.{flatMap-map}
 use Rattle.rules.proofs.AllLaws.{all-imply, flatMap-all}
 use Rattle.rules.proofs.OffsetLaws.{count-at}
+use Rattle.rules.proofs.VerdictLaws.{convert-chain}
 use Rattle.rules.proofs.TableCodec.{table-accepted, length-cellsOf, table-cells, length-headerBytes}
 use Rattle.rules.proofs.ConvertedLaws.{length-converted}
 use Rattle.table.proofs.PiecesLaws.{take-rest}
@@ -29,8 +30,8 @@ use Rattle.convert.proofs.WideCellLaws.{wide-bytes}
 
 -- refused by version 1's rules
 pub old-refused : (old t : List ℕ) {x : Refusal} → Refused x ≡ tableVerdict version1 old → filledBy (Nothing x) t ≡ conversion old t
-unfolding conversion convertVerdict fill
-old-refused old t e = rw (← e)
+unfolding conversion fill
+old-refused old t e = rw (convert-chain old (length t), ← e)
 
 module _ (old : List ℕ) (accepted : tableVerdict version1 old ≡ Accepted) where
   pub old-size : length old ≡ headerSize + cellSize version1 * cellCount old
@@ -44,8 +45,8 @@ module _ (old : List ℕ) (accepted : tableVerdict version1 old ≡ Accepted) wh
   old-count e = e ∙ count-at old (omega (arith, old-size))
 
   pub room-short : (t : List ℕ) {n : ℕ} → n ≡ be (gets old 5 2) → length t < headerSize + cellSize current * n → filledBy (Nothing ShortBuffer) t ≡ conversion old t
-  unfolding conversion convertVerdict fill
-  room-short t e h = rw (accepted, lt-leb (headerSize + cellSize current * cellCount old) (length t) (rw (old-count e) at h))
+  unfolding conversion fill
+  room-short t e h = rw (convert-chain old (length t), accepted, lt-leb (headerSize + cellSize current * cellCount old) (length t) (rw (old-count e) at h))
 
   -- the bytes of the same cells
   widened : Bytes old → converted old ≡ headerBytes current (cellCount old) ++ flatMap wideCell (cellRuns version1 old)
@@ -60,8 +61,8 @@ module _ (old : List ℕ) (accepted : tableVerdict version1 old ≡ Accepted) wh
   pub table-converted : Bytes old → (t : List ℕ) {n : ℕ} → n ≡ be (gets old 5 2) → headerSize + cellSize current * n ≤ length t
       → {a b : List ℕ} → a ≡ sets t 0 (headerBytes current n) → b ≡ sets a headerSize (flatMap wideCell (pieces (cellSize version1) n (take (length old - headerSize) (drop headerSize old))))
       → filledBy (Written (headerSize + cellSize current * n)) b ≡ conversion old t
-  unfolding conversion convertVerdict fill
+  unfolding conversion fill
   table-converted bytes t e room p q =
       let c = old-count e in
       let long = length-converted old bytes accepted in
-      rw (accepted, le-leb (headerSize + cellSize current * cellCount old) (length t) (rw c at room), long, widened bytes, q, p, take-rest, c, sets-run (headerBytes current (cellCount old)) _ t 0 headerSize (rw (length-headerBytes current)))
+      rw (convert-chain old (length t), accepted, le-leb (headerSize + cellSize current * cellCount old) (length t) (rw c at room), long, widened bytes, q, p, take-rest, c, sets-run (headerBytes current (cellCount old)) _ t 0 headerSize (rw (length-headerBytes current)))

@@ -17,7 +17,7 @@ use Rattle.octets.proofs.RunsLaws.{length-gets, gets-gets, gets-run, bytes-gets
 use Rattle.octets.proofs.NumbersLaws.{length-toBe, toBe-gets, toBe-join, be-lt, be-run}
 use Rattle.octets.proofs.PiecesLaws.{pieces-next, pieces-none}
 use Rattle.rules.specs.Lists.{every}
-use Rattle.rules.specs.Layout.{version1, current, field, placeFields, placeSize, placesPerCell, headSize, cellSize}
+use Rattle.rules.specs.Layout.{version1, current, fieldOf, periodInPlace, placeFields, placeSize, placesPerCell, headSize, cellSize}
 use Rattle.rules.proofs.FieldLaws.{field-at}
 use Rattle.rules.proofs.LayoutLaws.{place-size}
 use Rattle.convert.specs.Wide.{widePlace, widePlaces, wideCell, shortPeriod, shortPeriods}
@@ -27,16 +27,16 @@ use Rattle.convert.proofs.WideCellLaws.{length-widePlaces}
 -- ---- the bytes of a place
 
 module _ (b : List ℕ) (long : length b ≡ placeSize version1) where
-  at : (k : ℕ) → be (gets b (offset (placeFields version1) k) (getD (placeFields version1) k 0)) ≡ field (placeFields version1) k b
+  at : (k : ℕ) → be (gets b (offset (placeFields version1) k) (getD (placeFields version1) k 0)) ≡ fieldOf (placeFields version1) k b
   at k = sym (field-at (placeFields version1) b (omega (arith, place-size version1)) k)
 
-  pub period-at : be (gets b 8 2) ≡ field (placeFields version1) 3 b
+  pub period-at : be (gets b 8 2) ≡ fieldOf (placeFields version1) periodInPlace b
   unfolding offset
   period-at = at 3
 
   parts : be (gets b 0 2) ∷ be (gets b 2 2) ∷ be (gets b 4 4) ∷ be (gets b 8 2) ∷ be (gets b 10 2) ∷ be (gets b 12 2) ∷ be (gets b 14 2) ∷ be (gets b 16 1) ∷ be (gets b 17 1) ∷ be (gets b 18 2) ∷ []
       ≡ numbers (placeFields version1) b
-  unfolding offset field numbers
+  unfolding offset fieldOf numbers
   parts = rw (at 0, at 1, at 2, at 3, at 4, at 5, at 6, at 7, at 8, at 9)
 
   module _ (bytes : Bytes b) where
@@ -134,7 +134,7 @@ pub periods : (cell : List ℕ) → length cell ≡ cellSize version1
     → leb (be (gets cell 32 2)) 4095 && leb (be (gets cell 52 2)) 4095 && leb (be (gets cell 72 2)) 4095 && leb (be (gets cell 92 2)) 4095 ≡ shortPeriods cell
 unfolding shortPeriods shortPeriod every
 periods cell long =
-    let at : (i : ℕ) → field (placeFields version1) 3 (gets cell i (placeSize version1)) ≡ be (gets cell (i + 8) 2) =
+    let at : (i : ℕ) → fieldOf (placeFields version1) periodInPlace (gets cell i (placeSize version1)) ≡ be (gets cell (i + 8) 2) =
     λ i. sym (period-at (gets cell i (placeSize version1)) (length-gets (placeSize version1) cell i)) ∙ ap be (gets-gets 2 (placeSize version1) cell i 8 (omega arith)) in
     rw (pieces-next 20 4 cell 24 (omega arith) (omega arith), pieces-next 20 3 cell 44 (omega arith) (omega arith), pieces-next 20 2 cell 64 (omega arith) (omega arith), pieces-next 20 1 cell 84 (omega arith) (omega arith), pieces-none 20 0 (drop 104 cell) (omega arith), at 24, at 44, at 64, at 84)
     (simp (and-true, and-assoc))

@@ -13,7 +13,7 @@ use Rattle.octets.specs.Runs.{Bytes, pieces}
 use Rattle.octets.proofs.RunsLaws.{bytes-take, bytes-append, pieces-flatMap, length-flatMap, length-pieces}
 use Rattle.octets.proofs.FieldsLaws.{numbers-zeros}
 use Rattle.rules.specs.Lists.{every}
-use Rattle.rules.specs.Layout.{version1, current, field, placeFields, placeSize, placesPerCell, headSize, cellSize, longestPeriod}
+use Rattle.rules.specs.Layout.{version1, current, fieldOf, placeFields, placeSize, placesPerCell, headSize, cellSize, longestPeriod}
 use Rattle.rules.specs.Table.{placeOf, isFree, liveFirst, placesOf, legalPlace, legalHead, legalPlaces, placeRuns, cellOf, cellBytes, legalCell}
 use Rattle.rules.specs.declared.Place.{Place}
 use Rattle.rules.proofs.ListsLaws.{both, by-test, zeros-replicate}
@@ -42,15 +42,15 @@ first-wide (more {x = b} r rs) = rw (free-wide b r, live-wide b r, all-free-wide
 
 -- ---- version 1's rules of a place
 
-short-legal : (p : Place) → legalPlace version1 p ≡ leb (p .period .0) (longestPeriod version1) && legalPlace current p
+short-legal : (p : Place) → legalPlace version1 p ≡ leb (p .period .0) (longestPeriod version1 .0) && legalPlace current p
 unfolding legalPlace
 short-legal p =
-    by-test (leb (p .period .0) (longestPeriod version1))
-    (λ e. rw (e, le-leb (p .period .0) (longestPeriod current) (omega (arith, leb-true (p .period .0) (longestPeriod version1) e))))
+    by-test (leb (p .period .0) (longestPeriod version1 .0))
+    (λ e. rw (e, le-leb (p .period .0) (longestPeriod current .0) (omega (arith, leb-true (p .period .0) (longestPeriod version1 .0) e))))
     (λ e. rw e)
 
 free-short : {bs : List (List ℕ)} → All (λ b. isFree b ≡ true) bs → every shortPeriod bs ≡ true
-unfolding every shortPeriod field isFree
+unfolding every shortPeriod fieldOf isFree
 free-short none = refl
 free-short (more {x = b} f fs) = rw (zeros-replicate b f, numbers-zeros (placeFields version1) (length b), free-short fs)
 

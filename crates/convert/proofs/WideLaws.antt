@@ -11,7 +11,7 @@ use Rattle.octets.specs.Numbers.{be, toBe}
 use Rattle.octets.specs.Fields.{numbers, bytesOf, Fit, field}
 use Rattle.octets.proofs.FieldsLaws.{length-numbers, fit-numbers, bytes-bytesOf, numbers-zeros}
 use Rattle.rules.specs.Lists.{every, zeros}
-use Rattle.rules.specs.Layout.{version1, current, field as number, placeFields, placeSize}
+use Rattle.rules.specs.Layout.{version1, current, fieldOf, placeFields, placeSize}
 use Rattle.rules.specs.Table.{placeOf, isFree, isLive}
 use Rattle.rules.proofs.ListsLaws.{by-test, zeros-replicate}
 use Rattle.rules.proofs.FitLaws.{numbers-written, numbers-again, length-written}
@@ -55,11 +55,11 @@ module _ (b : List ℕ) (run : PlaceRun version1 b) where
   bytes-wide = bytes-bytesOf (placeFields current) (numbers (placeFields version1) b) (wider fit)
 
   pub place-wide : placeOf current (widePlace b) ≡ placeOf version1 b
-  unfolding placeOf number
+  unfolding placeOf fieldOf
   place-wide = rw numbers-wide
 
   pub live-wide : isLive current (widePlace b) ≡ isLive version1 b
-  unfolding isLive number
+  unfolding isLive fieldOf
   live-wide = rw numbers-wide
 
   -- bytes that are zero where widened were zero before

@@ -6,7 +6,7 @@ use lib.Dec.{leb}
 use lib.ListN.{take}
 use Rattle.octets.specs.Fields.{numbers, bytesOf}
 use Rattle.rules.specs.Lists.{every}
-use Rattle.rules.specs.Layout.{version1, current, field, placeFields, longestPeriod, headSize}
+use Rattle.rules.specs.Layout.{version1, current, fieldOf, periodInPlace, placeFields, longestPeriod, headSize}
 use Rattle.rules.specs.Table.{placeRuns}
 
 unfoldable pub widePlace : List ℕ → List ℕ
@@ -22,7 +22,7 @@ wideCell c = take headSize c ++ widePlaces c
 
 -- of version 1's rules only this is none of the current ones, once a place is widened
 unfoldable pub shortPeriod : List ℕ → Bool
-shortPeriod b = leb (field (placeFields version1) 3 b) (longestPeriod version1)
+shortPeriod b = leb (fieldOf (placeFields version1) periodInPlace b) (longestPeriod version1 .0)
 
 unfoldable pub shortPeriods : List ℕ → Bool
 shortPeriods c = every shortPeriod (placeRuns version1 c)

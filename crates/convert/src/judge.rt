@@ -11,6 +11,7 @@ ghost use Rattle.convert.specs.Wide.{shortPeriods};
 use crate::wide::widen_places;
 use octets::get16;
 use octets::get64;
+use rules::CellIdentity;
 use rules::Refusal;
 use rules::Verdict;
 use rules::layout::CELL_1;
@@ -56,14 +57,14 @@ fn old_cells_legal(cells: &[u8], count: usize) -> bool
     let mut wide = [0; PLACES * PLACE];
     while 0 < left {
         let end = at + CELL_1;
-        let identity = get64(cells, at);
-        if identity < least {
+        let identity = CellIdentity(get64(cells, at));
+        if identity.0 < least {
             return false;
         }
         if !old_cell_legal(&mut wide, &cells[at..end]) {
             return false;
         }
-        least = identity + 1;
+        least = identity.0 + 1;
         at = end;
         left -= 1;
     }

@@ -12,16 +12,16 @@ use Rattle.octets.specs.Numbers.{be}
 use Rattle.octets.specs.Fields.{numbers}
 use Rattle.octets.proofs.RunsLaws.{sets-front, take-sets-front}
 use Rattle.rules.specs.Lists.{every, any, zeros, oneOf}
-use Rattle.rules.specs.Layout.{field, version1, current, headerSize, cellSize}
+use Rattle.rules.specs.Layout.{fieldOf, version1, current, headerSize, cellSize}
 use Rattle.rules.specs.Table.{cellCount}
-use Rattle.rules.specs.Record.{oneSecond, requestOf, itemsOf, recordMarked, row, kindAllows, areaFits, withinLimits, cancelsNothing}
+use Rattle.rules.specs.Record.{oneSecond, requestOf, itemsOf, recordMarked, allowed, kindAllows, areaFits, withinLimits, cancelsNothing}
 use Rattle.rules.specs.Answer.{roomFor}
 use Rattle.rules.specs.Refusals.{tableVerdict, requestVerdict, recordVerdict, applyVerdict, convertVerdict}
 use Rattle.rules.specs.Applied.{Filled, Outcome, fill, converted, conversion}
 use Rattle.rules.specs.declared.Refusal.the-variants.{ShortBuffer}
 use Rattle.rules.specs.declared.Verdict.{Verdict}
 use Rattle.rules.specs.declared.Verdict.the-variants.{Accepted, Refused}
-use Rattle.rules.proofs.VerdictLaws.{then-accepted, unless-accepted}
+use Rattle.rules.proofs.VerdictLaws.{then-accepted, unless-accepted, apply-chain, convert-chain}
 use Rattle.rules.proofs.OutcomeLaws.{number-positive, applied-accepted}
 use Rattle.rules.proofs.AppliedLaws.{applied-legal, applied-bytes, applied-count}
 use Rattle.rules.proofs.ConvertedLaws.{converted-cells, converted-legal, length-converted, applied-converted}
@@ -50,15 +50,14 @@ broadcasts t bytes legal (c ∷ cs) h =
 
 -- computed
 record-of-second : (recordVerdict version1 secondRecord ≡ Accepted) × (requestOf secondRecord .kind ≡ oneSecond)
-unfolding recordVerdict requestVerdict recordMarked requestOf itemsOf kindAllows areaFits withinLimits cancelsNothing row zeros oneOf any every field numbers be pieces
+unfolding recordVerdict requestVerdict recordMarked requestOf itemsOf kindAllows areaFits withinLimits cancelsNothing allowed zeros oneOf any every fieldOf numbers be pieces
 record-of-second = (refl, refl)
 
 -- version 1 accepts the record of a second, and so the call wherever there is room
 second-accepted : (t : List ℕ) → tableVerdict version1 t ≡ Accepted → (c : Call) → IsSecond c → roomFor oneSecond (cellCount t) ≤ length (c .answer)
     → applyVerdict version1 t (c .req) (length (c .answer)) ≡ Accepted
-unfolding applyVerdict
 second-accepted t legal c s room =
-    rw (legal, s, record-of-second .0, record-of-second .1, le-leb (roomFor oneSecond (cellCount t)) (length (c .answer)) room)
+    rw (apply-chain version1 t (c .req) (length (c .answer)), legal, s, record-of-second .0, record-of-second .1, le-leb (roomFor oneSecond (cellCount t)) (length (c .answer)) room)
 
 all-seconds : (n : ℕ) (t : List ℕ) → Bytes t → tableVerdict version1 t ≡ Accepted → (c : Call) → IsSecond c → roomFor oneSecond (cellCount t) ≤ length (c .answer)
     → AllAccepted t (replicate n c)
@@ -78,9 +77,8 @@ module _ (old table : List ℕ) (bytes : Bytes old) where
     room : headerSize + cellSize current * cellCount old ≤ length table
 
   passed : convertVerdict old (length table) ≡ Accepted → Passed
-  unfolding convertVerdict
   passed e =
-      let a = then-accepted (tableVerdict version1 old) _ e in
+      let a = then-accepted (tableVerdict version1 old) _ (sym (convert-chain old (length table)) ∙ e) in
       record { legal = a .0; room = leb-true _ (length table) (unless-accepted _ ShortBuffer (a .1)) }
 
   of-converted : convertVerdict old (length table) ≡ Accepted → (d : PwsDone) (table′ : List ℕ) → d .length ≡ length (converted old) → table′ ≡ sets table 0 (converted old)

@@ -6,11 +6,13 @@ use Prim.Native.Nat.{ℕ}
 use native.Mathlib.Omega.{arith}
 use lib.Dec.{leb}
 use lib.ListN.{length}
-use Rattle.rules.specs.Layout.{version1, current, mostItems}
+use Rattle.rules.specs.Layout.{version1, current}
 use Rattle.rules.specs.Record.{requestOf, itemsOf}
-use Rattle.rules.specs.Refusals.{verdictNumber, legalHeads, buildVerdict, convertVerdict, applyVerdict, writeVerdict}
+use Rattle.rules.specs.Refusals.{verdictNumber, fewItems, legalHeads}
 use Rattle.rules.specs.Applied.{Filled, ReadOutcome, Outcome, built, conversion, written, readOf, itemAt, applied}
 use Rattle.rules.specs.declared.Refusal.the-variants.{RecordLength, BadHeads, ListDamaged, TooManySegments}
+use Rattle.rules.specs.declared.Verdict.{Verdict}
+use Rattle.rules.proofs.VerdictLaws.{write-chain, apply-chain, convert-chain, build-chain}
 use Rattle.rules.proofs.OutcomeLaws.{built-refused, conversion-refused, written-refused, read-refused, applied-refused}
 use Rattle.segments.specs.Segments.{Lies, mostSegments, lengthsFit, liesAt, packVerdict, packed}
 use Rattle.segments.proofs.Refused.{lies-refused, packed-refused}
@@ -67,38 +69,38 @@ length-lies e = ap (λ (p : Lies). p .length) e
 -- ---- each entry point
 
 -- what fills a buffer as its stages say, and leaves it as it was where one refuses
-filling : (stages : List Stage) → EachWithin stages → (f : Filled) (buffer : List ℕ) → f .number ≡ verdictNumber (chain stages)
+filling : (stages : List Stage) → EachWithin stages → (v : Verdict) → v ≡ chain stages → (f : Filled) (buffer : List ℕ) → f .number ≡ verdictNumber v
     → ((f .number ≡ 0 → ⊥) → (f .length ≡ 0) × (f .buffer ≡ buffer))
-    → (d : PwsDone) (buffer′ : List ℕ) → filled d buffer′ ≡ f → Filling d buffer buffer′ (chain stages) stages
-filling stages w f buffer n stays d buffer′ p =
+    → (d : PwsDone) (buffer′ : List ℕ) → filled d buffer′ ≡ f → Filling d buffer buffer′ v stages
+filling stages w v c f buffer n stays d buffer′ p =
     record {
-      numbered = numbered stages w (d .number) (number-filled p ∙ n);
+      numbered = numbered stages w v c (d .number) (number-filled p ∙ n);
       refused = λ h. let x = stays (λ z. h (number-filled p ∙ z)) in (length-filled p ∙ x .0, buffer-filled p ∙ x .1);
     }
 
 pub demand-1 : Demand1
-unfolding built buildVerdict conversion convertVerdict applied applyVerdict readOf written writeVerdict liesAt packed packVerdict
+unfolding built conversion applied readOf written liesAt packed packVerdict
 demand-1 =
     record {
       contracts = contracts-hold;
       of-build = λ heads table d table′ p.
-          filling _ (within-last (legalHeads heads) BadHeads (omega arith, omega arith), (within-room _ (length table), tt)) _ table (fill-number _ _ table) (built-refused heads table) d table′ p;
+          filling _ (within-last (legalHeads heads) BadHeads (omega arith, omega arith), (within-room _ (length table), tt)) _ (build-chain heads (length table)) _ table (fill-number _ _ table) (built-refused heads table) d table′ p;
       of-convert = λ old table d table′ p.
-          filling _ (within-table version1 old, (within-room _ (length table), tt)) _ table (fill-number _ _ table) (conversion-refused old table) d table′ p;
+          filling _ (within-table version1 old, (within-room _ (length table), tt)) _ (convert-chain old (length table)) _ table (fill-number _ _ table) (conversion-refused old table) d table′ p;
       apply-numbered = λ table req answer d table′ answer′ p.
-          numbered _ (within-table current table, (within-record req, (within-room _ (length answer), tt))) (d .number) (number-left p ∙ outcome-number current _ (requestOf req) (itemsOf req) table answer);
+          numbered _ (within-table current table, (within-record req, (within-room _ (length answer), tt))) _ (apply-chain current table req (length answer)) (d .number) (number-left p ∙ outcome-number current _ (requestOf req) (itemsOf req) table answer);
       apply-refused = λ table req answer d table′ answer′ p h.
           let x = applied-refused current table req answer (λ z. h (number-left p ∙ z)) in
           (length-left p ∙ x .0, table-left p ∙ x .1, answer-left p ∙ x .2);
       of-write = λ request items buffer d buffer′ p.
-          filling _ (within-last (leb (length items) mostItems) RecordLength (omega arith, omega arith), (within-asked request items, (within-room _ (length buffer), tt))) _ buffer (fill-number _ _ buffer) (written-refused request items buffer) d buffer′ p;
+          filling _ (within-last (fewItems (length items)) RecordLength (omega arith, omega arith), (within-asked request items, (within-room _ (length buffer), tt))) _ (write-chain request items (length buffer)) _ buffer (fill-number _ _ buffer) (written-refused request items buffer) d buffer′ p;
       of-pack = λ bytes lengths list d list′ p.
-          filling _ (within-last (lengthsFit lengths (length bytes)) ListDamaged (omega arith, omega arith), (within-last (leb (length lengths) mostSegments) TooManySegments (omega arith, omega arith), (within-room _ (length list), tt))) _ list (fill-number _ _ list) (packed-refused bytes lengths list) d list′ p;
-      read-numbered = λ req d p. numbered _ (within-record req, tt) (d .number) (number-read p ∙ reading-number _ req);
+          filling _ (within-last (lengthsFit lengths (length bytes)) ListDamaged (omega arith, omega arith), (within-last (leb (length lengths) mostSegments) TooManySegments (omega arith, omega arith), (within-room _ (length list), tt))) _ refl _ list (fill-number _ _ list) (packed-refused bytes lengths list) d list′ p;
+      read-numbered = λ req d p. numbered _ (within-record req, tt) _ refl (d .number) (number-read p ∙ reading-number _ req);
       read-refused = λ req d p h.
           let x = read-refused req (λ z. h (number-read p ∙ z)) in
           (request-read p ∙ x .0, items-read p ∙ x .1);
-      segment-numbered = λ first more k d p. numbered _ (within-segment more k, tt) (d .number) (number-lies p ∙ lying-number _ first more k);
+      segment-numbered = λ first more k d p. numbered _ (within-segment more k, tt) _ refl (d .number) (number-lies p ∙ lying-number _ first more k);
       segment-refused = λ first more k p e h.
           let x = lies-refused first more k (λ z. h (number-lies e ∙ z)) in
           (buffer-lies e ∙ x .0, start-lies e ∙ x .1, length-lies e ∙ x .2);

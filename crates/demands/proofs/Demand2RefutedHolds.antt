@@ -8,11 +8,11 @@ use native.Mathlib.Omega.{arith}
 use lib.ListN.{length, getD}
 use Rattle.octets.specs.Runs.{Bytes, gets, pieces}
 use Rattle.octets.specs.Numbers.{be, toBe}
-use Rattle.octets.specs.Fields.{size, numbers, bytesOf, filled}
+use Rattle.octets.specs.Fields.{size, numbers, bytesOf, padded}
 use Rattle.rules.specs.Lists.{every, any, those, zeros, oneOf, above, ascending}
-use Rattle.rules.specs.Layout.{current, field, headerSize, headSize, cellSize}
+use Rattle.rules.specs.Layout.{current, fieldOf, headerSize, headSize, cellSize}
 use Rattle.rules.specs.Table.{headOf, headNumbers, headBytes, legalHead, placeOf, placeNumbers, placeBytes, isFree, isLive, liveFirst, placesOf, legalPlace, isText, running, different, legalPlaces, cellOf, placesBytes, cellBytes, legalCell, cellsOf, headerBytes, tableBytes, tableMarked, legalTable}
-use Rattle.rules.specs.Record.{cancelOrKill, cancelAll, requestOf, itemsOf, recordMarked, row, kindAllows, areaFits, withinLimits, cancelsNothing}
+use Rattle.rules.specs.Record.{cancelOrKill, cancelAll, requestOf, itemsOf, recordMarked, allowed, kindAllows, areaFits, withinLimits, cancelsNothing}
 use Rattle.rules.specs.Reach.{names, reaches}
 use Rattle.rules.specs.InCell.{startsNothing, newPlace, start, cancel, inCell}
 use Rattle.rules.specs.Answer.{rowBytes, answerHead, answerBytes, roomFor}
@@ -52,7 +52,7 @@ record Computed : Type 0 where
   same-unsent : map withoutSent (cellsOf current (one (flood 1 1))) ≡ map withoutSent (cellsOf current twice)
 
 computed : Computed
-unfolding flatMap gets pieces be toBe size numbers bytesOf filled every any those zeros oneOf above ascending field headOf headNumbers headBytes legalHead placeOf placeNumbers placeBytes isFree isLive liveFirst placesOf legalPlace isText running different legalPlaces cellOf placesBytes cellBytes legalCell cellsOf headerBytes tableBytes tableMarked legalTable requestOf itemsOf recordMarked row kindAllows areaFits withinLimits cancelsNothing names reaches startsNothing newPlace start cancel inCell rowBytes answerHead answerBytes roomFor tableVerdict requestVerdict recordVerdict applyVerdict stepCell cellRows outcome applied
+unfolding flatMap gets pieces be toBe size numbers bytesOf padded every any those zeros oneOf above ascending fieldOf headOf headNumbers headBytes legalHead placeOf placeNumbers placeBytes isFree isLive liveFirst placesOf legalPlace isText running different legalPlaces cellOf placesBytes cellBytes legalCell cellsOf headerBytes tableBytes tableMarked legalTable requestOf itemsOf recordMarked allowed kindAllows areaFits withinLimits cancelsNothing names reaches startsNothing newPlace start cancel inCell rowBytes answerHead answerBytes roomFor tableVerdict requestVerdict recordVerdict applyVerdict stepCell cellRows outcome applied
 computed =
     record {
       started = record { are-bytes = (bytes-tested (one (free 4)) refl, bytes-tested starting refl); accepted = refl; gives = refl };
@@ -100,7 +100,7 @@ module _ (u : CallUnit) (m : MeetsDemand2 u) where
 
   -- the same of the second cell
   not-first-cell : ChangesFirstCellOnly u → ⊥
-  unfolding pieces field numbers gets be size
+  unfolding pieces fieldOf numbers gets be size
   not-first-cell h =
       let z : _≡_ {A = ℕ} 17 0 = sym (ap (λ (o : Outcome). getD (cellAt (o .table) 1) 24 0) (gives (computed .started-two))) ∙ ap (λ l. getD l 24 0) (h (two (free 4) (free 4)) starting blank 1 (omega arith)) in
       omega arith
@@ -125,7 +125,7 @@ module _ (u : CallUnit) (m : MeetsDemand2 u) where
 
   -- the text sent once and twice is told with 1 and with 2
   not-without-sent : CountsWithoutSent u → ⊥
-  unfolding field numbers gets be
+  unfolding fieldOf numbers gets be
   not-without-sent h =
       let n : u (one (flood 1 1)) stopping blank .length ≡ 26 = ap (λ (o : Outcome). o .length) (gives (computed .stopped-once)) in
       let k : u twice stopping blank .length ≡ 26 = ap (λ (o : Outcome). o .length) (gives (computed .stopped-twice)) in

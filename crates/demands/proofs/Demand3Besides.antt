@@ -1,23 +1,18 @@
 -- Acceptance and reach are the same at any time of a run, so `Meet` may read both off the first table; and an accepted second reaches every cell.
 -- The number follows from the verdict, which stays; heads stay under every call; the table of kinds allows a second no area.
 use mathlib.Core.Path.{_≡_, refl, sym, ap, _∙_}
-use mathlib.Core.Bool.{true, _&&_, false≢true}
-use mathlib.Core.List.{List, [], _∷_, map, map-map}
+use mathlib.Core.List.{List, map, map-map}
 use Prim.Native.Nat.{ℕ}
-use lib.Dec.{eqb}
 use lib.ListN.{length}
-use borrow.Author.Tests.{eqb-true}
-use Rattle.rules.specs.Lists.{any, zeros, oneOf}
 use Rattle.rules.specs.Layout.{current}
 use Rattle.rules.specs.Table.{cellsOf}
-use Rattle.rules.specs.Record.{noArea, oneSecond, requestOf, itemsOf, identifierToSib, row, kindAllows}
+use Rattle.rules.specs.Record.{requestOf, itemsOf}
 use Rattle.rules.specs.Reach.{reaches}
 use Rattle.rules.specs.Refusals.{verdictNumber, applyVerdict}
 use Rattle.rules.specs.Applied.{outcome, applied}
-use Rattle.rules.specs.declared.Request.{Request}
 use Rattle.rules.specs.declared.Verdict.{Verdict}
 use Rattle.rules.specs.declared.Verdict.the-variants.{Accepted, Refused}
-use Rattle.rules.proofs.ListsLaws.{both, by-test}
+use Rattle.rules.proofs.KindAreaLaws.{second-area}
 use Rattle.rules.proofs.VerdictLaws.{request-accepted}
 use Rattle.rules.proofs.RecordTrips.{record-accepted}
 use Rattle.rules.proofs.OutcomeLaws.{applied-accepted}
@@ -43,18 +38,6 @@ pub cells-stay : CellsStay
 cells-stay t bytes legal before =
     ap (map (λ c. c .head)) (cells-after t legal bytes before)
     ∙ map-map (λ c. c .head) (cellBefore t before (length before)) (cellsOf current t)
-
-row-area : (q : Request) (flags areas zero : List ℕ) → row q flags areas zero ≡ true → oneOf (q .area) areas ≡ true
-unfolding row
-row-area q flags areas zero e =
-    both (oneOf (q .flags) flags) (oneOf (q .area) areas) (both (oneOf (q .flags) flags && oneOf (q .area) areas) (zeros zero) e .0) .1
-
--- the table of kinds allows a second area 0 only
-second-area : (q : Request) → kindAllows q ≡ true → q .kind ≡ oneSecond → q .area ≡ noArea
-unfolding kindAllows row oneOf any
-second-area q e k =
-    let area = row-area q (0 ∷ []) (noArea ∷ []) (identifierToSib q) (rw k at e) in
-    by-test (eqb (q .area) noArea) (eqb-true (q .area) noArea) (λ n. absurd (false≢true (rw n at area)))
 
 pub second-reaches-all : SecondReachesAll
 unfolding reaches

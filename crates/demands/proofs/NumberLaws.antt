@@ -1,22 +1,24 @@
 -- The number of a call is that of its verdict, and the first stage that refuses decides it.
 -- A verdict is a chain of stages; each is taken off its front, by its two cases.
 use mathlib.Core.Path.{_≡_, refl, sym, ap, _∙_, subst}
-use mathlib.Core.Bool.{Bool, true, false, not, _&&_}
+use mathlib.Core.Bool.{Bool, true, false, _&&_}
 use mathlib.Core.List.{List, [], _∷_}
-use Prim.Native.Nat.{ℕ, zero, suc, _+_, _*_, _≤_}
+use Prim.Native.Nat.{ℕ, zero, suc, _≤_}
 use native.Mathlib.Omega.{arith}
-use lib.Dec.{eqb, leb}
+use lib.Dec.{leb}
 use lib.ListN.{length}
-use Rattle.rules.specs.Layout.{Version, versionNumber, current, longestPeriod, recordSize, itemSize, mostItems}
-use Rattle.rules.specs.Table.{tableMarked, legalTable}
-use Rattle.rules.specs.Record.{longestAsked, requestOf, zeroByte, itemCount, itemsOf, recordMarked, kindAllows, areaFits, withinLimits, cancelsNothing}
-use Rattle.rules.specs.Refusals.{numberOf, verdictNumber, refuseUnless, _then_, tableVerdict, requestVerdict, recordVerdict, applyVerdict}
+use borrow.Author.Tests.{leb-true}
+use Rattle.rules.specs.Lists.{every}
+use Rattle.rules.specs.Layout.{Version, current, longestPeriod}
+use Rattle.rules.specs.Record.{requestOf, itemsOf}
+use Rattle.rules.specs.Refusals.{numberOf, verdictNumber, refuseUnless, _then_, Test, firstOf, fitsIn, tableTests, requestTests, recordTests, tableVerdict, requestVerdict, recordVerdict, applyVerdict}
 use Rattle.rules.specs.Applied.{fill, reading, outcome, applied}
 use Rattle.rules.specs.declared.Request.{Request}
 use Rattle.rules.specs.declared.Refusal.{Refusal}
-use Rattle.rules.specs.declared.Refusal.the-variants.{TableMark, TableWrong, RecordMark, RecordLength, RecordFields, RecordLimits, CancelsNothing, ShortBuffer, ListDamaged, TooManySegments, NoSuchSegment}
+use Rattle.rules.specs.declared.Refusal.the-variants.{ShortBuffer, ListDamaged, TooManySegments, NoSuchSegment}
 use Rattle.rules.specs.declared.Verdict.{Verdict}
 use Rattle.rules.specs.declared.Verdict.the-variants.{Accepted, Refused}
+use Rattle.rules.proofs.ListsLaws.{both}
 use Rattle.rules.proofs.OutcomeLaws.{number-positive}
 use Rattle.segments.specs.Segments.{mostSegments, segmentsOf, wholeList, segmentVerdict, lying}
 use Rattle.demands.specs.Demand1.{Stage, Given, Numbered}
@@ -64,33 +66,30 @@ pub within-last : {lowest highest : ℕ} (b : Bool) (x : Refusal) → (lowest �
 within-last true x p = tt
 within-last false x p = p
 
+-- tests whose numbers all lie between two
+within-first : (lowest highest : ℕ) (ts : List Test) → every (λ t. leb lowest (numberOf (t .refusal)) && leb (numberOf (t .refusal)) highest) ts ≡ true → Within lowest highest (firstOf ts)
+unfolding every
+within-first lowest highest [] e = tt
+within-first lowest highest (t ∷ ts) e =
+    let n = numberOf (t .refusal) in
+    let first = both (leb lowest n && leb n highest) (every (λ u. leb lowest (numberOf (u .refusal)) && leb (numberOf (u .refusal)) highest) ts) e in
+    let ends = both (leb lowest n) (leb n highest) (first .0) in
+    within-next (t .holds) (t .refusal) (firstOf ts) (leb-true lowest n (ends .0), leb-true n highest (ends .1)) (within-first lowest highest ts (first .1))
+
 pub within-table : (v : Version) (t : List ℕ) → Within 1 2 (tableVerdict v t)
-unfolding tableVerdict
-within-table v t =
-    within-next (tableMarked (versionNumber v) t) TableMark _ (omega arith, omega arith)
-    (within-last (legalTable v t) TableWrong (omega arith, omega arith))
+unfolding tableVerdict every
+within-table v t = within-first 1 2 (tableTests v t) refl
 
--- from 5 on, or from wherever tests before begin
-within-request : (lowest : ℕ) → lowest ≤ 5 → (longest : ℕ) (q : Request) (items : List ℕ) → Within lowest 7 (requestVerdict longest q items)
-unfolding requestVerdict
-within-request lowest low longest q items =
-    within-next (kindAllows q && areaFits q (length items)) RecordFields _ (omega arith, omega arith)
-    (within-next (withinLimits longest q items) RecordLimits _ (omega arith, omega arith)
-    (within-last (not (cancelsNothing q)) CancelsNothing (omega arith, omega arith)))
-
-pub within-room : (need room : ℕ) → Within 8 8 (refuseUnless (leb need room) ShortBuffer)
-within-room need room = within-last (leb need room) ShortBuffer (omega arith, omega arith)
+pub within-room : (need room : ℕ) → Within 8 8 (refuseUnless (fitsIn need room) ShortBuffer)
+within-room need room = within-last (fitsIn need room) ShortBuffer (omega arith, omega arith)
 
 pub within-asked : (q : Request) (items : List ℕ) → Within 5 7 (requestVerdict (longestPeriod current) q items)
-within-asked q items = within-request 5 (omega arith) (longestPeriod current) q items
+unfolding requestVerdict every
+within-asked q items = within-first 5 7 (requestTests true (longestPeriod current) q items) refl
 
 pub within-record : (r : List ℕ) → Within 3 7 (recordVerdict current r)
-unfolding recordVerdict
-within-record r =
-    within-next (recordMarked current r) RecordMark _ (omega arith, omega arith)
-    (within-next (leb (itemCount r) mostItems && eqb (length r) (recordSize + itemSize * itemCount r)) RecordLength _ (omega arith, omega arith)
-    (within-next (eqb (zeroByte r) 0) RecordFields _ (omega arith, omega arith)
-    (within-request 3 (omega arith) (longestAsked r) (requestOf r) (itemsOf r))))
+unfolding recordVerdict every
+within-record r = within-first 3 7 (recordTests current r) refl
 
 pub within-segment : (more : List ℕ) (k : ℕ) → Within 10 12 (segmentVerdict more k)
 unfolding segmentVerdict
@@ -129,5 +128,6 @@ by-stages [] w = refl
 by-stages (s ∷ []) w = stage-last (s .lowest) (s .highest) (s .verdict) (w .0)
 by-stages (s ∷ next ∷ later) w = stage-next (s .lowest) (s .highest) (s .verdict) (chain (next ∷ later)) (w .0) (next ∷ later) (by-stages (next ∷ later) (w .1))
 
-pub numbered : (stages : List Stage) → EachWithin stages → (n : ℕ) → n ≡ verdictNumber (chain stages) → Numbered n (chain stages) stages
-numbered stages w n e = record { its-verdict = e; by-stages = subst (λ k. Given k stages) (sym e) (by-stages stages w) }
+pub numbered : (stages : List Stage) → EachWithin stages → (v : Verdict) → v ≡ chain stages → (n : ℕ) → n ≡ verdictNumber v → Numbered n v stages
+numbered stages w v c n e =
+    record { its-verdict = e; by-stages = subst (λ k. Given k stages) (sym (e ∙ ap verdictNumber c)) (by-stages stages w) }

@@ -5,11 +5,11 @@ use mathlib.Core.List.{List, [], _∷_}
 use Prim.Native.Nat.{ℕ, _+_, _*_, _≤_}
 use lib.Dec.{leb}
 use lib.ListN.{length}
-use Rattle.rules.specs.Layout.{Version, version1, current, longestPeriod, headerSize, cellSize, recordSize, itemSize, mostItems}
+use Rattle.rules.specs.Layout.{Version, version1, current, longestPeriod, headerSize, cellSize, recordSize, itemSize}
 use Rattle.rules.specs.Table.{cellCount}
 use Rattle.rules.specs.Record.{requestOf}
 use Rattle.rules.specs.Answer.{roomFor}
-use Rattle.rules.specs.Refusals.{numberOf, verdictNumber, refuseUnless, headCount, legalHeads, tableVerdict, recordVerdict, requestVerdict, buildVerdict, convertVerdict, applyVerdict, writeVerdict}
+use Rattle.rules.specs.Refusals.{numberOf, verdictNumber, refuseUnless, fewItems, fitsIn, headCount, legalHeads, tableVerdict, recordVerdict, requestVerdict, buildVerdict, convertVerdict, applyVerdict, writeVerdict}
 use Rattle.rules.specs.Applied.{noRequest}
 use Rattle.rules.specs.declared.Request.{Request}
 use Rattle.rules.specs.declared.Refusal.{Refusal}
@@ -38,14 +38,14 @@ recordStage req = record { lowest = 3; highest = 7; verdict = recordVerdict curr
 
 -- a request to be written: the number of its items, then the rest
 abbrev pub itemsStage : List ℕ → Stage
-itemsStage items = record { lowest = 4; highest = 4; verdict = refuseUnless (leb (length items) mostItems) RecordLength }
+itemsStage items = record { lowest = 4; highest = 4; verdict = refuseUnless (fewItems (length items)) RecordLength }
 
 abbrev pub requestStage : Request → List ℕ → Stage
 requestStage request items =
     record { lowest = 5; highest = 7; verdict = requestVerdict (longestPeriod current) request items }
 
 abbrev pub roomStage : (need room : ℕ) → Stage
-roomStage need room = record { lowest = 8; highest = 8; verdict = refuseUnless (leb need room) ShortBuffer }
+roomStage need room = record { lowest = 8; highest = 8; verdict = refuseUnless (fitsIn need room) ShortBuffer }
 
 abbrev pub headsStage : List ℕ → Stage
 headsStage heads = record { lowest = 9; highest = 9; verdict = refuseUnless (legalHeads heads) BadHeads }

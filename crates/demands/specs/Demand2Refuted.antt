@@ -6,7 +6,7 @@ use mathlib.Core.List.{List, [], _∷_, _++_, map}
 use Prim.Native.Nat.{ℕ, _+_, _≤_}
 use lib.ListN.{take, drop}
 use lib.Seq.{sets}
-use Rattle.rules.specs.Layout.{current, field, headerSize, cellSize, rowFields, answerSize, rowSize}
+use Rattle.rules.specs.Layout.{current, fieldOf, headerSize, cellSize, answerSize, rowFields, countInRow, rowSize}
 use Rattle.rules.specs.Table.{Cell, cellsOf}
 use Rattle.rules.specs.Record.{cancelOrKill, cancelAll, requestOf}
 use Rattle.rules.specs.Answer.{roomFor}
@@ -55,7 +55,7 @@ StopsText r o =
     × (answerSize + rowSize ≤ o .length)
 
 abbrev pub firstCount : Outcome → ℕ
-firstCount o = field rowFields 1 (drop answerSize (o .answer))
+firstCount o = fieldOf rowFields countInRow (drop answerSize (o .answer))
 
 -- it does not come from the table: it is guessed from the record ..
 abbrev pub InventsCounts : CallUnit → Type 0

@@ -13,7 +13,7 @@ use Rattle.octets.specs.Runs.{Bytes}
 use Rattle.octets.proofs.RunsLaws.{sets-back-first, length-flatMap}
 use Rattle.rules.specs.Layout.{current, headerSize, recordSize, answerSize, rowSize, longestPeriod}
 use Rattle.rules.specs.Table.{cellOf, cellCount, cellRuns, cellsOf, tableBytes, placeBytes}
-use Rattle.rules.specs.Record.{writeReplace, requestOf, itemsOf}
+use Rattle.rules.specs.Record.{writeReplace, unknownKind, kindOf, requestOf, itemsOf}
 use Rattle.rules.specs.InCell.{startsNothing, newPlace}
 use Rattle.rules.specs.Answer.{Row, rowBytes, answerHead, answerBytes, roomFor}
 use Rattle.rules.specs.Refusals.{tableVerdict, recordVerdict, applyVerdict}
@@ -26,7 +26,8 @@ use Rattle.rules.specs.declared.Verdict.the-variants.{Accepted, Refused}
 use Rattle.rules.proofs.ListsLaws.{both}
 use Rattle.rules.proofs.TableCodec.{table-accepted, table-back}
 use Rattle.rules.proofs.RecordTrips.{AcceptedRecord, record-accepted, within-own}
-use Rattle.rules.proofs.VerdictLaws.{AllowedRequest, request-accepted, starts}
+use Rattle.rules.proofs.VerdictLaws.{apply-chain, AllowedRequest, request-accepted}
+use Rattle.rules.proofs.KindAreaLaws.{kind-known}
 use Rattle.rules.proofs.StartLaws.{new-sound}
 use Rattle.rules.proofs.AppliedLaws.{AcceptedCall, call-accepted, record-fits, length-answerHead, length-answerBytes, length-rowBytes, answer-fits, applied-table, applied-answer}
 use Rattle.rules.proofs.AppliedRuns.{applied-by-runs, rows-of-runs, idle-cells, idle-answer}
@@ -37,28 +38,27 @@ use Rattle.engine.specs.Walk.{rowsAfter, tableAfter, isIdle, WalkOut, Gr
 
 module _ (t r : List ℕ) (room : ℕ) where
   pub table-refused : (x : Refusal) → tableVerdict current t ≡ Refused x → Refused x ≡ applyVerdict current t r room
-  unfolding applyVerdict
-  table-refused x e = rw e
+  table-refused x e = rw (apply-chain current t r room, e)
 
   module _ (a : tableVerdict current t ≡ Accepted) where
     pub record-refused : (x : Refusal) → recordVerdict current r ≡ Refused x → Refused x ≡ applyVerdict current t r room
-    unfolding applyVerdict
-    record-refused x e = rw (a, e)
+    record-refused x e = rw (apply-chain current t r room, a, e)
 
     module _ (b : recordVerdict current r ≡ Accepted) where
       pub room-refused : room < roomFor (requestOf r .kind) (cellCount t) → Refused ShortBuffer ≡ applyVerdict current t r room
-      unfolding applyVerdict
-      room-refused h = rw (a, b, lt-leb (roomFor (requestOf r .kind) (cellCount t)) room h)
+      room-refused h = rw (apply-chain current t r room, a, b, lt-leb (roomFor (requestOf r .kind) (cellCount t)) room h)
 
       pub none-refused : roomFor (requestOf r .kind) (cellCount t) ≤ room → Accepted ≡ applyVerdict current t r room
-      unfolding applyVerdict
-      none-refused h = rw (a, b, le-leb (roomFor (requestOf r .kind) (cellCount t)) room h)
+      none-refused h = rw (apply-chain current t r room, a, b, le-leb (roomFor (requestOf r .kind) (cellCount t)) room h)
 
 pub long-table : (t : List ℕ) → tableVerdict current t ≡ Accepted → headerSize ≤ length t
 long-table t e = omega (arith, table-accepted current t e .size)
 
 pub long-record : (r : List ℕ) → recordVerdict current r ≡ Accepted → recordSize ≤ length r
 long-record r e = record-accepted current r e .long
+
+pub known-kind : (r : List ℕ) → recordVerdict current r ≡ Accepted → kindOf (requestOf r .kind) ≡ unknownKind → ⊥
+known-kind r e = kind-known (requestOf r) (request-accepted _ (requestOf r) (itemsOf r) (record-accepted current r e .request) .kind)
 
 pub few-cells : (t : List ℕ) → tableVerdict current t ≡ Accepted → cellCount t ≤ 65535
 few-cells t e = omega (arith, table-accepted current t e .few)

@@ -13,9 +13,10 @@ use lib.Seq.{take-nil}
 use Rattle.octets.proofs.TurnedLaws.{turned-twice}
 use Rattle.rules.specs.Lists.{any, oneOf, upTo}
 use Rattle.rules.specs.Table.{Head}
-use Rattle.rules.specs.Record.{noArea}
+use Rattle.rules.specs.Record.{noArea, cellArea, trackingArea, emergencyArea}
 use Rattle.rules.specs.Reach.{names, reaches, lookedAt}
-use Rattle.engine.specs.Reach.{keysIn, namedBy, turnedKeys}
+use Rattle.rules.proofs.KindAreaLaws.{area-by}
+use Rattle.engine.specs.Reach.{keysIn, namedBy, turnedKeys, namingIn, namingOf}
 use Rattle.engine.specs.declared.reach.Naming.{Naming}
 
 -- ---- the search
@@ -43,7 +44,7 @@ module _ (p q : ℕ → Bool) (same : (x : ℕ) → p x ≡ q x) where
 
 module _ (area : ℕ) (items : List ℕ) (h : Head) (by : ℕ → Bool) where
   -- without an area there are no items
-  pub search-start : ((x : ℕ) → eqb area noArea ≡ false → by x ≡ names area h x) → (eqb area noArea ≡ true → items ≡ []) → Searching area items h by (eqb area noArea) 0
+  pub search-start : ((x : ℕ) → by x ≡ names area h x) → (eqb area noArea ≡ true → items ≡ []) → Searching area items h by (eqb area noArea) 0
   unfolding reaches lookedAt upTo
   search-start meant none = go (eqb area noArea) refl
     where
@@ -51,8 +52,8 @@ module _ (area : ℕ) (items : List ℕ) (h : Head) (by : ℕ → Bool) where
       go true e = record { reached = rw e; looked = rw (e, none e) }
       go false e =
           record {
-            reached = rw e (any-same (names area h) by (λ x. sym (meant x e)) items);
-            looked = rw (e, zero-add) (upTo-same (names area h) by (λ x. sym (meant x e)) items);
+            reached = rw e (any-same (names area h) by (λ x. sym (meant x)) items);
+            looked = rw (e, zero-add) (upTo-same (names area h) by (λ x. sym (meant x)) items);
           }
 
   module _ (hit : Bool) (k : ℕ) (s : Searching area items h by hit k) where
@@ -105,3 +106,9 @@ pub keys-back : (s : Naming) (n a b c d : ℕ) → s ≡ turnedKeys n (a ∷ b �
     → (x : ℕ) → namedBy s x ≡ oneOf x (take n (a ∷ b ∷ c ∷ d ∷ []))
 unfolding namedBy keysIn turnedKeys
 keys-back s n a b c d e ha hb hc hd x = rw (e, turned-twice 8 a ha, turned-twice 8 b hb, turned-twice 8 c hc, turned-twice 8 d hd)
+
+-- without an area, and for an unknown one, there is none
+pub no-keys : (area : ℕ) (b : List ℕ) → (area ≡ cellArea → ⊥) → (area ≡ trackingArea → ⊥) → (area ≡ emergencyArea → ⊥) → namingOf area b ≡ turnedKeys 0 []
+unfolding namingOf
+no-keys area b c t e =
+    area-by (λ a. namingIn a b ≡ turnedKeys 0 []) area (λ _. refl) (λ x. absurd (c x)) (λ x. absurd (t x)) (λ x. absurd (e x)) refl

@@ -1,7 +1,7 @@
 -- The walk's two loops in document 01's words: the search among the items, and a cell that is reached or not.
 -- What a search has still to look through decides; a reached cell's routine leaves the bytes that the rule gives.
 use mathlib.Core.Path.{_≡_, refl, sym, ap, _∙_}
-use mathlib.Core.Bool.{true, false, _&&_, false≢true}
+use mathlib.Core.Bool.{true, false}
 use mathlib.Core.List.{List, [], _∷_, flatMap}
 use Prim.Native.Nat.{ℕ, _+_, _*_, _-_, _<_, _≤_}
 use native.Mathlib.Nat.{mul-assoc, mul-le-mul, zero-add}
@@ -14,10 +14,9 @@ use lib.Seq.{sets, length-take-le}
 use Rattle.octets.specs.Runs.{gets, Bytes}
 use Rattle.octets.specs.Numbers.{be}
 use Rattle.octets.proofs.RunsLaws.{bytes-drop}
-use Rattle.rules.specs.Lists.{any, oneOf, zeros}
 use Rattle.rules.specs.Layout.{current, headerSize, headSize, cellSize, recordSize, itemSize, answerSize, rowSize, placesPerCell, mostCells}
 use Rattle.rules.specs.Table.{cellOf, legalCell, cellCount, cellRuns}
-use Rattle.rules.specs.Record.{noArea, oneSecond, requestOf, itemsOf, identifierToSib, row, kindAllows, areaFits}
+use Rattle.rules.specs.Record.{noArea, requestOf, itemsOf, areaFits}
 use Rattle.rules.specs.Reach.{names, reaches}
 use Rattle.rules.specs.InCell.{inCell}
 use Rattle.rules.specs.Answer.{rowBytes, rowsPerCell, roomFor}
@@ -25,7 +24,7 @@ use Rattle.rules.specs.Refusals.{applyVerdict}
 use Rattle.rules.specs.Applied.{cellAfter, rowOf, cellRows}
 use Rattle.rules.specs.declared.Request.{Request}
 use Rattle.rules.specs.declared.Verdict.the-variants.{Accepted}
-use Rattle.rules.proofs.ListsLaws.{both, cond-either, by-test}
+use Rattle.rules.proofs.KindAreaLaws.{rows-most, second-area}
 use Rattle.rules.proofs.VerdictLaws.{request-accepted}
 use Rattle.rules.proofs.CellCodec.{legal-cell}
 use Rattle.rules.proofs.TableCodec.{table-accepted}
@@ -69,9 +68,6 @@ module _ (q : Request) (items c : List ℕ) where
 abbrev pub GoingOn : Request → List ℕ → List ℕ → List ℕ → ℕ → ℕ → ℕ → ℕ → List ℕ → List ℕ → ℕ → ℕ → ℕ → ℕ → Type 0
 GoingOn q items = Going (cellAfter current q items) (λ c. cellRows q items (cellOf current c)) (rowsPerCell (q .kind))
 
-pub few-rows : (kind : ℕ) → rowsPerCell kind ≤ placesPerCell
-few-rows kind = cond-either (λ n. n ≤ placesPerCell) (eqb kind oneSecond) placesPerCell 1 (λ _. omega arith) (λ _. omega arith)
-
 module _ (t : List ℕ) (cells : ℕ) (r : List ℕ) (q : Request) (a : List ℕ) (bytes : Bytes t) (accepted : applyVerdict current t r (length a) ≡ Accepted) (n : cells ≡ cellCount t) (request : q ≡ requestOf r) where
   pub begin : GoingOn q (itemsOf r) (tableAfter q (itemsOf r) t (cellRuns current t)) (sets a answerSize (flatMap rowBytes (rowsAfter q (itemsOf r) (cellRuns current t))))
       (length (rowsAfter q (itemsOf r) (cellRuns current t))) (placesPerCell * mostCells) (length t) (length a) t a headerSize answerSize 0 cells
@@ -83,7 +79,7 @@ module _ (t : List ℕ) (cells : ℕ) (r : List ℕ) (q : Request) (a : List ℕ
       let kind : rowsPerCell (requestOf r .kind) ≡ k = ap (λ (x : Request). rowsPerCell (x .kind)) (sym request) in
       let room : answerSize + rowSize * k * cells ≤ length a = rw (n, ← kind) (call .enough) in
       let fewer : cells ≤ mostCells = rw n (legal .few) in
-      let most : k * cells ≤ placesPerCell * mostCells = mul-le-mul (few-rows (q .kind)) fewer in
+      let most : k * cells ≤ placesPerCell * mostCells = mul-le-mul (rows-most (q .kind)) fewer in
       record {
         size = rw n (sym (legal .size));
         bytes = bytes-drop headerSize t bytes;
@@ -172,23 +168,11 @@ module _ (t : List ℕ) (cells : ℕ) (r : List ℕ) (items : ℕ) (q : Request)
 
 -- what names the cell that was lent
 pub named-here : (t : List ℕ) (at k area : ℕ) (s : Naming) → k ≡ cellSize current → KeysOf area (take headSize (midOf at k t)) s
-    → (x : ℕ) → eqb area noArea ≡ false → namedBy s x ≡ names area (cellOf current (take (cellSize current) (drop at t)) .head) x
+    → (x : ℕ) → namedBy s x ≡ names area (cellOf current (take (cellSize current) (drop at t)) .head) x
 unfolding cellOf
-named-here t at k area s ek h x e = h .meant x ∙ rw (e, ek)
+named-here t at k area s ek h x = h .meant x ∙ rw ek
 
 -- ---- a second
-
-row-area : (q : Request) (flags areas zero : List ℕ) → row q flags areas zero ≡ true → oneOf (q .area) areas ≡ true
-unfolding row
-row-area q flags areas zero e =
-    both (oneOf (q .flags) flags) (oneOf (q .area) areas) (both (oneOf (q .flags) flags && oneOf (q .area) areas) (zeros zero) e .0) .1
-
--- the table of kinds allows a second area 0 only
-second-area : (q : Request) → kindAllows q ≡ true → q .kind ≡ oneSecond → q .area ≡ noArea
-unfolding kindAllows row oneOf any
-second-area q e k =
-    let area = row-area q (0 ∷ []) (noArea ∷ []) (identifierToSib q) (rw k at e) in
-    by-test (eqb (q .area) noArea) (eqb-true (q .area) noArea) (λ n. absurd (false≢true (rw n at area)))
 
 -- an accepted second reaches every cell
 pub second-reaches : (t : List ℕ) (cells : ℕ) (r a : List ℕ) → SecondIn t cells r a → (c : List ℕ) → reaches (requestOf r .area) (itemsOf r) (cellOf current c .head) ≡ true

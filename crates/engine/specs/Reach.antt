@@ -1,15 +1,14 @@
 -- What names a cell, read once for each cell before the items are looked through.
 use mathlib.Core.Path.{_≡_}
-use mathlib.Core.Bool.{Bool, false, cond}
+use mathlib.Core.Bool.{Bool}
 use mathlib.Core.List.{List, [], _∷_}
 use Prim.Native.Nat.{ℕ}
-use lib.Dec.{eqb}
 use lib.ListN.{take, getD}
 use Rattle.octets.specs.Turned.{turned}
 use Rattle.rules.specs.Lists.{oneOf}
 use Rattle.rules.specs.Identity.{trackingItem}
 use Rattle.rules.specs.Table.{headOf, areasUsed, allAreas}
-use Rattle.rules.specs.Record.{noArea, cellArea, trackingArea}
+use Rattle.rules.specs.Record.{Area, everywhere, inCells, inTrackingAreas, inEmergencyAreas, unknownArea, areaOf}
 use Rattle.rules.specs.Reach.{names}
 use Rattle.engine.specs.declared.reach.Naming.{Naming}
 
@@ -33,15 +32,18 @@ turnedKeys n keys =
       fourth = turned 8 (getD keys 3 0);
     }
 
--- by the area's kind, out of the bytes of a head: its NR CGI, its tracking area as an item, its emergency areas in use; no key without an area
+-- by the area's kind, out of the bytes of a head: its NR CGI, its tracking area as an item, its emergency areas in use
+abbrev pub namingIn : Area → List ℕ → Naming
+namingIn everywhere b = turnedKeys 0 []
+namingIn inCells b = turnedKeys 1 (headOf b .identity ∷ [])
+namingIn inTrackingAreas b = turnedKeys 1 (trackingItem (headOf b .identity) (headOf b .code) ∷ [])
+namingIn inEmergencyAreas b = turnedKeys (areasUsed b) (allAreas b)
+namingIn unknownArea b = turnedKeys 0 []
+
 unfoldable pub namingOf : ℕ → List ℕ → Naming
-namingOf area b =
-    cond (eqb area noArea) (turnedKeys 0 [])
-    (cond (eqb area cellArea) (turnedKeys 1 (headOf b .identity ∷ []))
-    (cond (eqb area trackingArea) (turnedKeys 1 (trackingItem (headOf b .identity) (headOf b .code) ∷ []))
-    (turnedKeys (areasUsed b) (allAreas b))))
+namingOf area b = namingIn (areaOf area) b
 
 pub record KeysOf (area : ℕ) (b : List ℕ) (s : Naming) : Type 0 where
   pub keys : s ≡ namingOf area b
   -- which follows
-  pub meant : (x : ℕ) → namedBy s x ≡ cond (eqb area noArea) false (names area (headOf b) x)
+  pub meant : (x : ℕ) → namedBy s x ≡ names area (headOf b) x

@@ -4,6 +4,7 @@ ghost use Prim.Native.Nat.{_≤_};
 ghost use lib.ListN.{length};
 ghost use Rattle.rules.specs.Layout.{current, headerSize};
 ghost use Rattle.rules.specs.Table.{cellCount};
+ghost use Rattle.rules.specs.Record.{kindOf, unknownKind};
 ghost use Rattle.rules.specs.Answer.{roomFor};
 ghost use Rattle.rules.specs.Refusals.{applyVerdict};
 ghost use Rattle.rules.specs.Applied.{outcomeBy, applied};
@@ -36,7 +37,7 @@ fn cells_of(table: &[u8]) -> usize
 
 // Room for one row of each cell, or one for each place for a second.
 fn room_for(kind: u8, cells: usize) -> usize
-    requires { ⌜ cells ≤ 65535 ⌝ }
+    requires { ⌜ (cells ≤ 65535) × (kindOf kind ≡ unknownKind → ⊥) ⌝ }
     ensures { λ r. ⌜ r ≡ roomFor kind cells ⌝ }
 {
     if kind == ONE_SECOND {

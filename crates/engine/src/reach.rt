@@ -14,7 +14,7 @@ use cell::read::tracking;
 use octets::says64;
 use octets::turned64;
 use rules::kind::CELLS;
-use rules::kind::NO_AREA;
+use rules::kind::EMERGENCY_AREAS;
 use rules::kind::TRACKING_AREAS;
 
 // The keys of a cell, each turned, of which the first `keys` are in use: its NR CGI, the item that names its tracking area, or its
@@ -39,28 +39,29 @@ fn keyed(keys: u8, first: u64, second: u64, third: u64, fourth: u64) -> Naming
     }
 }
 
-// Without an area no key is asked for.
+// Without an area, and for an unknown one, a cell has no key.
 pub fn naming_of(cell: &[u8], area: u8) -> Naming
     requires { ⌜ length (now cell) ≡ cellSize current ⌝ }
     ensures { λ r. ⌜ KeysOf area (take headSize (now (cell .entry))) r ⌝ }
 {
-    if area == NO_AREA {
-        return keyed(0, 0, 0, 0, 0);
-    }
     if area == CELLS {
-        return keyed(1, identity(cell), 0, 0, 0);
+        let key = identity(cell);
+        return keyed(1, key.0, 0, 0, 0);
     }
     if area == TRACKING_AREAS {
         return keyed(1, tracking(cell), 0, 0, 0);
     }
-    let areas = areas_of(cell);
-    keyed(
-        areas.used,
-        areas.first as u64,
-        areas.second as u64,
-        areas.third as u64,
-        areas.fourth as u64,
-    )
+    if area == EMERGENCY_AREAS {
+        let areas = areas_of(cell);
+        return keyed(
+            areas.used,
+            areas.first as u64,
+            areas.second as u64,
+            areas.third as u64,
+            areas.fourth as u64,
+        );
+    }
+    keyed(0, 0, 0, 0, 0)
 }
 
 // Whether the item at an index is one of the keys in use.

@@ -11,9 +11,9 @@ use lib.ListN.{length, take, length-append}
 use lib.Seq.{take-all, take-append-le}
 use borrow.Author.Tests.{leb-true, le-leb, eqb-true}
 use Rattle.octets.proofs.FieldsLaws.{numbers-append}
-use Rattle.rules.specs.Layout.{current, versionNumber, field, recordFields, recordSize, recordMark, itemSize, mostItems}
+use Rattle.rules.specs.Layout.{current, versionNumber, fieldOf, markField, recordFields, recordSize, recordMark, itemSize, mostItems}
 use Rattle.rules.specs.Table.{tableMarked, legalTable}
-use Rattle.rules.specs.Record.{versionIn, takes, requestOf, itemCount, itemsOf, recordMarked}
+use Rattle.rules.specs.Record.{versionIn, takesVersion, requestOf, itemCount, itemsOf, recordMarked}
 use Rattle.rules.specs.Refusals.{verdictNumber, _then_, tableVerdict, recordVerdict, applyVerdict}
 use Rattle.rules.specs.Applied.{outcome, applied}
 use Rattle.rules.specs.declared.Request.{Request}
@@ -21,13 +21,14 @@ use Rattle.rules.specs.declared.Verdict.{Verdict}
 use Rattle.rules.specs.declared.Verdict.the-variants.{Accepted, Refused}
 use Rattle.rules.proofs.LayoutLaws.{record-size}
 use Rattle.rules.proofs.ListsLaws.{both, by-test}
+use Rattle.rules.proofs.VerdictLaws.{apply-chain}
 use Rattle.lines.specs.Framing.{ownSize, frameOf, stopsAt}
 use Rattle.lines.proofs.FrameLaws.{own-whole, frame-whole, frame-cut}
 
 -- ---- more input changes nothing
 
 count-stays : (held more : List ℕ) → recordSize ≤ length held → itemCount (held ++ more) ≡ itemCount held
-unfolding field
+unfolding fieldOf
 count-stays held more h = rw (numbers-append recordFields held more (omega (arith, record-size)))
 
 own-least : (l : List ℕ) → recordSize ≤ ownSize l
@@ -93,8 +94,8 @@ stops-4 = refl
 long-marked : (l : List ℕ) → recordMarked current l ≡ true → recordSize ≤ length l
 unfolding recordMarked
 long-marked l e =
-    let m = both (leb recordSize (length l) && eqb (field recordFields 0 l) recordMark) (takes current (versionIn l)) e in
-    leb-true recordSize (length l) (both (leb recordSize (length l)) (eqb (field recordFields 0 l) recordMark) (m .0) .0)
+    let m = both (leb recordSize (length l) && eqb (fieldOf recordFields markField l) recordMark) (takesVersion current (versionIn l)) e in
+    leb-true recordSize (length l) (both (leb recordSize (length l)) (eqb (fieldOf recordFields markField l) recordMark) (m .0) .0)
 
 -- what is shorter than its own size is refused by its mark or its length
 pub cut-refused : (l : List ℕ) → length l < ownSize l → stopsAt (verdictNumber (recordVerdict current l)) ≡ true
@@ -115,11 +116,12 @@ cut-refused l h = by-test (recordMarked current l) marked (λ (e : recordMarked 
 
 -- so the program stops there, whatever its table
 pub cut-stops : (t a l : List ℕ) → length l < ownSize l → stopsAt (applied current t (take (frameOf l true) l) a .number) ≡ true
-unfolding applied applyVerdict
+unfolding applied
 cut-stops t a l h =
     rw (
       ← frame-cut l (ownSize l) refl true refl h,
       take-all (length l) l (omega arith),
       number-of (applyVerdict current t l (length a)) (requestOf l) (itemsOf l) t a,
+      apply-chain current t l (length a),
     )
     (table-stops t _ (stays-stopped (recordVerdict current l) _ (cut-refused l h)))

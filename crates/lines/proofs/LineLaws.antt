@@ -11,7 +11,7 @@ use Rattle.octets.specs.Numbers.{be}
 use Rattle.octets.specs.Fields.{offset}
 use Rattle.octets.proofs.RunsLaws.{sets-run, gets-gets, length-gets}
 use Rattle.octets.proofs.PiecesLaws.{pieces-next, pieces-none}
-use Rattle.rules.specs.Layout.{answerFields, answerSize, rowFields, rowSize, field}
+use Rattle.rules.specs.Layout.{answerFields, answerSize, rowFields, rowSize, fieldOf, kindInAnswer}
 use Rattle.rules.specs.Answer.{Row}
 use Rattle.rules.proofs.LayoutLaws.{answer-size, row-size}
 use Rattle.rules.proofs.FieldLaws.{field-at}
@@ -61,7 +61,7 @@ module _ {out first next last : List ℕ} {at a b end : ℕ} where
 
 -- what an answer's bytes at an index say of a row: the field k of a row, w bytes at an offset
 pub row-field : (k at w : ℕ) → offset rowFields k ≡ at → getD rowFields k 0 ≡ w → at + w ≤ rowSize → (answer : List ℕ) (from : ℕ)
-    → field rowFields k (gets answer from rowSize) ≡ be (gets answer (from + at) w)
+    → fieldOf rowFields k (gets answer from rowSize) ≡ be (gets answer (from + at) w)
 row-field k at w o v h answer from =
     let l : length (gets answer from rowSize) ≡ rowSize = length-gets rowSize answer from in
     field-at rowFields (gets answer from rowSize) (omega (arith, row-size)) k ∙ rw (o, v, gets-gets w rowSize answer from at h)
@@ -97,7 +97,7 @@ pub answer-said : {out next last : List ℕ} {at mid end : ℕ} (answer : List �
     → Said next mid (rowsText rows (drop answerSize answer)) last end → Said out at (answerText answer) last end
 unfolding answerText offset
 answer-said {out} {next} {last} {at} {mid} {end} answer kind rows h k r a b =
-    let f : field answerFields 2 answer ≡ kind = field-at answerFields answer (omega (arith, answer-size)) 2 ∙ sym k in
+    let f : fieldOf answerFields kindInAnswer answer ≡ kind = field-at answerFields answer (omega (arith, answer-size)) 2 ∙ sym k in
     rw (f, ← r) (said-then a b)
 
 -- ---- text still to come: what is stored now and the rest behind it are the whole

@@ -7,7 +7,7 @@ use lib.Dec.{eqb, ltb}
 use lib.ListN.{length, take, drop, getD}
 use lib.Seq.{sets}
 use Rattle.octets.specs.Runs.{pieces}
-use Rattle.rules.specs.Layout.{field, answerFields, rowFields, answerSize, rowSize}
+use Rattle.rules.specs.Layout.{fieldOf, identityInRow, countInRow, contentInRow, kindInAnswer, answerFields, rowFields, answerSize, rowSize}
 use Rattle.rules.specs.Answer.{Row}
 use Rattle.rules.specs.Applied.{Outcome}
 
@@ -72,14 +72,14 @@ longestRow = hexPlaces + 1 + (mostPlaces + 1) + (mostPlaces + 1)
 -- ---- an answer's lines
 
 unfoldable pub rowSaid : List ℕ → Row
-rowSaid b = record { identity = field rowFields 0 b; count = field rowFields 1 b; content = field rowFields 2 b }
+rowSaid b = record { identity = fieldOf rowFields identityInRow b; count = fieldOf rowFields countInRow b; content = fieldOf rowFields contentInRow b }
 
 abbrev pub rowCount : List ℕ → ℕ
 rowCount a = (length a - answerSize) / rowSize
 
 unfoldable pub answerText : List ℕ → List ℕ
 answerText a =
-    okText (field answerFields 2 a) (rowCount a)
+    okText (fieldOf answerFields kindInAnswer a) (rowCount a)
     ++ flatMap rowText (map rowSaid (pieces rowSize (rowCount a) (drop answerSize a)))
 
 -- what is printed of a request, by what it left

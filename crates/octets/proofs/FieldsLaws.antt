@@ -9,7 +9,7 @@ use lib.ListN.{length, getD, take, drop, replicate, length-append, length-drop}
 use lib.Seq.{take-take, take-nil, take-add, take-at, drop-at, take-append-le, drop-append-le, length-take-le}
 use Rattle.octets.specs.Runs.{gets, Bytes}
 use Rattle.octets.specs.Numbers.{be, toBe}
-use Rattle.octets.specs.Fields.{size, offset, numbers, bytesOf, Fit, none, field, filled}
+use Rattle.octets.specs.Fields.{size, offset, numbers, bytesOf, Fit, none, field, padded}
 use Rattle.octets.proofs.RunsLaws.{gets-eq, gets-drop, bytes-take, bytes-drop, bytes-append}
 use Rattle.octets.proofs.NumbersLaws.{length-toBe, be-toBe, be-lt, toBe-be, bytes-toBe}
 
@@ -109,21 +109,21 @@ numbers-zeros (w ∷ ws) n = rw (be-take-zeros w n, drop-zeros w n, numbers-zero
 -- ---- filled up
 
 module _ {A : Type 0} where
-  pub length-filled : (n : ℕ) (z : A) (xs : List A) → length (filled n z xs) ≡ n
-  unfolding filled
-  length-filled zero z xs = refl
-  length-filled (suc n) z [] = ap suc (length-filled n z [])
-  length-filled (suc n) z (x ∷ xs) = ap suc (length-filled n z xs)
+  pub length-padded : (n : ℕ) (z : A) (xs : List A) → length (padded n z xs) ≡ n
+  unfolding padded
+  length-padded zero z xs = refl
+  length-padded (suc n) z [] = ap suc (length-padded n z [])
+  length-padded (suc n) z (x ∷ xs) = ap suc (length-padded n z xs)
 
-  pub filled-append : (n : ℕ) (z : A) (xs : List A) → length xs ≤ n → filled n z xs ≡ xs ++ replicate (n - length xs) z
-  unfolding filled
-  filled-append zero z [] h = refl
-  filled-append zero z (x ∷ xs) h = absurd (omega arith)
-  filled-append (suc n) z [] h = rw (filled-append n z [] (omega arith), sub-zero, sub-zero)
-  filled-append (suc n) z (x ∷ xs) h = rw (filled-append n z xs (omega arith), suc-sub-suc)
+  pub padded-append : (n : ℕ) (z : A) (xs : List A) → length xs ≤ n → padded n z xs ≡ xs ++ replicate (n - length xs) z
+  unfolding padded
+  padded-append zero z [] h = refl
+  padded-append zero z (x ∷ xs) h = absurd (omega arith)
+  padded-append (suc n) z [] h = rw (padded-append n z [] (omega arith), sub-zero, sub-zero)
+  padded-append (suc n) z (x ∷ xs) h = rw (padded-append n z xs (omega arith), suc-sub-suc)
 
-  pub take-filled : (n : ℕ) (z : A) (xs : List A) → length xs ≤ n → take (length xs) (filled n z xs) ≡ xs
-  take-filled n z xs h = rw (filled-append n z xs h) (take-at xs (replicate (n - length xs) z) (length xs) refl)
+  pub take-padded : (n : ℕ) (z : A) (xs : List A) → length xs ≤ n → take (length xs) (padded n z xs) ≡ xs
+  take-padded n z xs h = rw (padded-append n z xs h) (take-at xs (replicate (n - length xs) z) (length xs) refl)
 
-  pub drop-filled : (n : ℕ) (z : A) (xs : List A) → length xs ≤ n → drop (length xs) (filled n z xs) ≡ replicate (n - length xs) z
-  drop-filled n z xs h = rw (filled-append n z xs h) (drop-at xs (replicate (n - length xs) z) (length xs) refl)
+  pub drop-padded : (n : ℕ) (z : A) (xs : List A) → length xs ≤ n → drop (length xs) (padded n z xs) ≡ replicate (n - length xs) z
+  drop-padded n z xs h = rw (padded-append n z xs h) (drop-at xs (replicate (n - length xs) z) (length xs) refl)

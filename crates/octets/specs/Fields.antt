@@ -32,7 +32,7 @@ pub data Fit : List ℕ → List ℕ → Type 0 where
   field : {w v : ℕ} {ws vs : List ℕ} → v < 256 ^ w → Fit ws vs → Fit (w ∷ ws) (v ∷ vs)
 
 -- a list filled up with z to n elements
-unfoldable pub filled : {A : Type 0} → ℕ → A → List A → List A
-filled zero z xs = []
-filled (suc n) z [] = z ∷ filled n z []
-filled (suc n) z (x ∷ xs) = x ∷ filled n z xs
+unfoldable pub padded : {A : Type 0} → ℕ → A → List A → List A
+padded zero z xs = []
+padded (suc n) z [] = z ∷ padded n z []
+padded (suc n) z (x ∷ xs) = x ∷ padded n z xs

@@ -9,16 +9,18 @@ use lib.ListN.{length, take, drop, set, replicate, length-append, length-set, le
 use lib.Seq.{sets, length-sets, sets-eq, length-take-le, take-at, drop-at, drop-drop, take-all}
 use Rattle.octets.specs.Runs.{gets, Bytes}
 use Rattle.octets.specs.Numbers.{be, toBe}
-use Rattle.octets.specs.Fields.{offset, bytesOf, filled}
+use Rattle.octets.specs.Fields.{offset, bytesOf, padded}
 use Rattle.octets.proofs.RunsLaws.{gets-eq, gets-run, length-gets, sets-run}
 use Rattle.octets.proofs.NumbersLaws.{length-toBe, toBe-gets}
-use Rattle.octets.proofs.FieldsLaws.{length-filled}
+use Rattle.octets.proofs.FieldsLaws.{length-padded}
 use Rattle.octets.proofs.PartsLaws.{field-stored, sets-over}
 use Rattle.rules.specs.Layout.{current, placeFields, headSize, placeSize, placesPerCell, cellSize}
 use Rattle.rules.specs.Table.{placeOf, placeNumbers, placeBytes, freeBytes, placesBytes}
 use Rattle.rules.specs.InCell.{withCounts}
+use Rattle.rules.specs.declared.Seconds.{Seconds}
+use Rattle.rules.specs.declared.Broadcasts.{Broadcasts}
 use Rattle.rules.specs.declared.Place.{Place}
-use Rattle.rules.proofs.JoinedLaws.{joined-sets, joined-less, set-filled, filled-more, filled-less, map-set, map-take, map-drop}
+use Rattle.rules.proofs.JoinedLaws.{joined-sets, joined-less, set-padded, padded-more, padded-less, map-set, map-take, map-drop}
 use Rattle.rules.proofs.PlaceCodec.{runsOf, place-back}
 use Rattle.cell.specs.Places.{livePlaces, withPlaces, placeAt, LiveAt, FreeAt, OnePlace, without}
 use Rattle.places.specs.Words.{wordBytes}
@@ -59,39 +61,39 @@ module _ (c : List ℕ) (k : ℕ) (at : LiveAt c k) where
       → sets c (headSize + placeSize current * k + j) vs ≡ withPlaces c (set (livePlaces c) k q)
   stored q j vs fits-in e =
       let ps : List Place = livePlaces c in
-      let n : length (runsOf current ps) ≡ placesPerCell = length-filled placesPerCell (freeBytes current) (map (placeBytes current) ps) in
+      let n : length (runsOf current ps) ≡ placesPerCell = length-padded placesPerCell (freeBytes current) (map (placeBytes current) ps) in
       let m : length (map (placeBytes current) ps) ≡ length ps = length-map ps (placeBytes current) in
       let live = at .live in
       ap (λ (l : List ℕ). sets l (headSize + placeSize current * k + j) vs) (at .formed .whole ∙ withPlaces-runs c ps)
       ∙ joined-sets (placeSize current) (wide-runs ps) (take headSize c) vs headSize k j (headSize + placeSize current * k + j) (head-long c (at .formed .size)) (omega arith) fits-in refl
-      ∙ rw (live-run c k at, e, set-filled (freeBytes current) placesPerCell k (map (placeBytes current) ps) (placeBytes current q) (omega arith), ← map-set (placeBytes current) ps k q) (sym (withPlaces-runs c (set ps k q)))
+      ∙ rw (live-run c k at, e, set-padded (freeBytes current) placesPerCell k (map (placeBytes current) ps) (placeBytes current q) (omega arith), ← map-set (placeBytes current) ps k q) (sym (withPlaces-runs c (set ps k q)))
 
   ten : (p : Place) → length (placeNumbers p) ≡ length (placeFields current)
   unfolding placeNumbers
   ten p = refl
 
   -- sent and wait, which stand side by side
-  pub counts-stored : (sent wait : ℕ)
-      → sets (sets c (headSize + placeSize current * k + 14) (toBe 2 sent)) (headSize + placeSize current * k + 16) (toBe 4 wait) ≡ withPlaces c (set (livePlaces c) k (withCounts (placeAt c k) sent wait))
+  pub counts-stored : (sent : Broadcasts) (wait : Seconds)
+      → sets (sets c (headSize + placeSize current * k + 14) (toBe 2 (sent .0))) (headSize + placeSize current * k + 16) (toBe 4 (wait .0)) ≡ withPlaces c (set (livePlaces c) k (withCounts (placeAt c k) sent wait))
   unfolding placeBytes offset
   counts-stored sent wait =
       let p : Place = placeAt c k in
-      let n : length (toBe 2 sent) ≡ 2 = length-toBe 2 sent in
-      let m : length (toBe 2 sent ++ toBe 4 wait) ≡ 6 = rw (length-append, n, length-toBe 4 wait) in
-      let five : sets (placeBytes current p) 14 (toBe 2 sent) ≡ bytesOf (placeFields current) (set (placeNumbers p) 5 sent) = field-stored (placeFields current) (placeNumbers p) 5 sent (omega arith) (ten p) in
-      let six : sets (bytesOf (placeFields current) (set (placeNumbers p) 5 sent)) 16 (toBe 4 wait) ≡ bytesOf (placeFields current) (set (set (placeNumbers p) 5 sent) 6 wait) =
-      field-stored (placeFields current) (set (placeNumbers p) 5 sent) 6 wait (omega arith) (rw length-set (ten p)) in
-      sets-run (toBe 2 sent) (toBe 4 wait) c (headSize + placeSize current * k + 14) (headSize + placeSize current * k + 16) (omega arith)
-      ∙ stored (withCounts p sent wait) 14 (toBe 2 sent ++ toBe 4 wait) (omega arith)
-      (rw (← sets-run (toBe 2 sent) (toBe 4 wait) (placeBytes current p) 14 16 (omega arith), five, six, ← counted p sent wait))
+      let n : length (toBe 2 (sent .0)) ≡ 2 = length-toBe 2 (sent .0) in
+      let m : length (toBe 2 (sent .0) ++ toBe 4 (wait .0)) ≡ 6 = rw (length-append, n, length-toBe 4 (wait .0)) in
+      let five : sets (placeBytes current p) 14 (toBe 2 (sent .0)) ≡ bytesOf (placeFields current) (set (placeNumbers p) 5 (sent .0)) = field-stored (placeFields current) (placeNumbers p) 5 (sent .0) (omega arith) (ten p) in
+      let six : sets (bytesOf (placeFields current) (set (placeNumbers p) 5 (sent .0))) 16 (toBe 4 (wait .0)) ≡ bytesOf (placeFields current) (set (set (placeNumbers p) 5 (sent .0)) 6 (wait .0)) =
+      field-stored (placeFields current) (set (placeNumbers p) 5 (sent .0)) 6 (wait .0) (omega arith) (rw length-set (ten p)) in
+      sets-run (toBe 2 (sent .0)) (toBe 4 (wait .0)) c (headSize + placeSize current * k + 14) (headSize + placeSize current * k + 16) (omega arith)
+      ∙ stored (withCounts p sent wait) 14 (toBe 2 (sent .0) ++ toBe 4 (wait .0)) (omega arith)
+      (rw (← sets-run (toBe 2 (sent .0)) (toBe 4 (wait .0)) (placeBytes current p) 14 16 (omega arith), five, six, ← counted p sent wait))
 
   -- wait alone
-  pub wait-stored : (wait : ℕ) → sets c (headSize + placeSize current * k + 16) (toBe 4 wait) ≡ withPlaces c (set (livePlaces c) k (withCounts (placeAt c k) (placeAt c k .sent .0) wait))
+  pub wait-stored : (wait : Seconds) → sets c (headSize + placeSize current * k + 16) (toBe 4 (wait .0)) ≡ withPlaces c (set (livePlaces c) k (withCounts (placeAt c k) (placeAt c k .sent) wait))
   unfolding placeBytes offset placeNumbers withCounts
   wait-stored wait =
       let p : Place = placeAt c k in
-      let n : length (toBe 4 wait) ≡ 4 = length-toBe 4 wait in
-      stored (withCounts p (p .sent .0) wait) 16 (toBe 4 wait) (omega arith) (field-stored (placeFields current) (placeNumbers p) 6 wait (omega arith) refl)
+      let n : length (toBe 4 (wait .0)) ≡ 4 = length-toBe 4 (wait .0) in
+      stored (withCounts p (p .sent) wait) 16 (toBe 4 (wait .0)) (omega arith) (field-stored (placeFields current) (placeNumbers p) 6 (wait .0) (omega arith) refl)
 
 -- ---- a place more
 
@@ -102,12 +104,12 @@ module _ (c : List ℕ) (k : ℕ) (at : FreeAt c k) (b : List ℕ) (one : OnePla
       let m : length (map (placeBytes current) ps) ≡ length ps = length-map ps (placeBytes current) in
       let room = at .room in
       let e : k ≡ length (map (placeBytes current) ps) = at .first ∙ sym m in
-      rw (e, map-append (placeBytes current) ps (placeOf current b ∷ []), place-back current b bytes (one .long) (one .live)) (filled-more (freeBytes current) placesPerCell (map (placeBytes current) ps) b (omega arith))
+      rw (e, map-append (placeBytes current) ps (placeOf current b ∷ []), place-back current b bytes (one .long) (one .live)) (padded-more (freeBytes current) placesPerCell (map (placeBytes current) ps) b (omega arith))
 
   pub added : (vs : List ℕ) → vs ≡ gets b 0 (placeSize current) → sets c (headSize + placeSize current * k) vs ≡ withPlaces c (livePlaces c ++ (placeOf current b ∷ []))
   added vs e =
       let ps : List Place = livePlaces c in
-      let n : length (runsOf current ps) ≡ placesPerCell = length-filled placesPerCell (freeBytes current) (map (placeBytes current) ps) in
+      let n : length (runsOf current ps) ≡ placesPerCell = length-padded placesPerCell (freeBytes current) (map (placeBytes current) ps) in
       let long = one .long in
       let all : vs ≡ b = e ∙ gets-eq (placeSize current) b 0 (omega arith) ∙ take-all (placeSize current) b (omega arith) in
       let room = at .room in
@@ -127,12 +129,12 @@ module _ (c : List ℕ) (k : ℕ) (at : LiveAt c k) where
       let few : length ps ≤ placesPerCell = live-few c in
       let live = at .live in
       rw (add-one k, map-append (placeBytes current) (take k ps) (drop (suc k) ps), map-take (placeBytes current) k ps, map-drop (placeBytes current) (suc k) ps)
-      (filled-less (freeBytes current) placesPerCell k (map (placeBytes current) ps) (omega arith) (omega arith))
+      (padded-less (freeBytes current) placesPerCell k (map (placeBytes current) ps) (omega arith) (omega arith))
 
   pub dropped : take (headSize + placeSize current * k) c ++ (drop (headSize + placeSize current * k + placeSize current) c ++ freeBytes current) ≡ withPlaces c (without k (livePlaces c))
   dropped =
       let ps : List Place = livePlaces c in
-      let n : length (runsOf current ps) ≡ placesPerCell = length-filled placesPerCell (freeBytes current) (map (placeBytes current) ps) in
+      let n : length (runsOf current ps) ≡ placesPerCell = length-padded placesPerCell (freeBytes current) (map (placeBytes current) ps) in
       let few = at .few in
       ap (λ (l : List ℕ). take (headSize + placeSize current * k) l ++ (drop (headSize + placeSize current * k + placeSize current) l ++ freeBytes current)) (at .formed .whole ∙ withPlaces-runs c ps)
       ∙ joined-less (placeSize current) (wide-runs ps) (take headSize c) (freeBytes current) headSize k (headSize + placeSize current * k) (head-long c (at .formed .size)) (omega arith) refl
@@ -204,7 +206,7 @@ module _ (c₀ c : List ℕ) (k : ℕ) (f : Freeing c₀ c k) where
       }
 
   pub free-ends : placesPerCell ≤ k → length c₀ ≡ cellSize current → c ≡ withPlaces c₀ []
-  unfolding withPlaces placesBytes filled flatMap
+  unfolding withPlaces placesBytes padded flatMap
   free-ends h long =
       let few = f .few in
       let e : k ≡ placesPerCell = omega arith in

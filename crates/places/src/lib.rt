@@ -66,7 +66,7 @@ fn store(to: &mut [u8], at: usize, words: Words)
 
 pub fn set_counts(cell: &mut [u8], k: usize, counts: Counts)
     requires { ⌜ LiveAt (now cell) k ⌝ }
-    ensures { λ _. ⌜ now (cell .exit) ≡ withPlaces (now (cell .entry)) (set (livePlaces (now (cell .entry))) k (withCounts (placeAt (now (cell .entry)) k) (counts .sent .0) (counts .wait .0))) ⌝ }
+    ensures { λ _. ⌜ now (cell .exit) ≡ withPlaces (now (cell .entry)) (set (livePlaces (now (cell .entry))) k (withCounts (placeAt (now (cell .entry)) k) (counts .sent) (counts .wait))) ⌝ }
 {
     put16(cell, HEAD + PLACE * k + SENT_AT, counts.sent.0);
     put32(cell, HEAD + PLACE * k + WAIT_AT, counts.wait.0);
@@ -74,7 +74,7 @@ pub fn set_counts(cell: &mut [u8], k: usize, counts: Counts)
 
 pub fn set_wait(cell: &mut [u8], k: usize, wait: Seconds)
     requires { ⌜ LiveAt (now cell) k ⌝ }
-    ensures { λ _. ⌜ now (cell .exit) ≡ withPlaces (now (cell .entry)) (set (livePlaces (now (cell .entry))) k (withCounts (placeAt (now (cell .entry)) k) (placeAt (now (cell .entry)) k .sent .0) (wait .0))) ⌝ }
+    ensures { λ _. ⌜ now (cell .exit) ≡ withPlaces (now (cell .entry)) (set (livePlaces (now (cell .entry))) k (withCounts (placeAt (now (cell .entry)) k) (placeAt (now (cell .entry)) k .sent) wait)) ⌝ }
 {
     put32(cell, HEAD + PLACE * k + WAIT_AT, wait.0);
 }

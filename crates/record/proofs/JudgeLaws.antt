@@ -1,7 +1,7 @@
--- The tests of a request as the code makes them are those of the rules: areas by their largest, kinds one after the other, and the order of 5, 6 and 7.
+-- The tests of a request as the code makes them are those of the rules: areas by their largest, and the order of 5, 6 and 7.
 -- Each is computed, once the tests that decide it are put in.
 use mathlib.Core.Path.{_≡_, refl}
-use mathlib.Core.Bool.{Bool, true, false, cond, not, _&&_, _||_, true≢false, and-true}
+use mathlib.Core.Bool.{Bool, true, false, cond, not, _&&_, _||_, and-true}
 use mathlib.Core.List.{List, [], _∷_}
 use Prim.Native.Nat.{ℕ, zero, suc}
 use native.Mathlib.Omega.{arith}
@@ -9,13 +9,14 @@ use lib.Dec.{eqb, ltb, leb}
 use lib.ListN.{length}
 use borrow.Author.Tests.{lt-leb, ne-eqb, not-true, not-false}
 use Rattle.rules.specs.Lists.{any, every, oneOf, zeros}
-use Rattle.rules.specs.Record.{kindAllows, areaFits, itemEnd, withinLimits, cancelsNothing}
+use Rattle.rules.specs.Record.{emergencyArea, anyArea, kindAllows, areaFits, itemEnd, withinLimits, cancelsNothing}
 use Rattle.rules.specs.Refusals.{requestVerdict}
+use Rattle.rules.specs.declared.Seconds.{Seconds}
 use Rattle.rules.specs.declared.Request.{Request}
 use Rattle.rules.specs.declared.Refusal.the-variants.{RecordFields, RecordLimits, CancelsNothing}
 use Rattle.rules.specs.declared.Verdict.the-variants.{Accepted, Refused}
 
-pub area-known : (area : ℕ) → leb area 3 ≡ oneOf area (0 ∷ 1 ∷ 2 ∷ 3 ∷ [])
+pub area-known : (area : ℕ) → leb area emergencyArea ≡ oneOf area anyArea
 unfolding oneOf any
 area-known zero = refl
 area-known (suc zero) = refl
@@ -41,24 +42,14 @@ unfolding zeros every
 zeros-unless true xs = refl
 zeros-unless false xs = refl
 
--- ---- two tests with one answer
-
-pub either-way : {A : Type 0} (a b : Bool) (x y : A) → a || b ≡ true → cond a x (cond b x y) ≡ x
-either-way true b x y e = refl
-either-way false b x y e = rw e
-
-pub neither-way : {A : Type 0} (a b : Bool) (x y : A) → a || b ≡ false → cond a x (cond b x y) ≡ y
-neither-way true b x y e = absurd (true≢false e)
-neither-way false b x y e = rw e
-
 -- ---- 5, 6 and 7 in their order
 
-within-each : (longest : ℕ) (q : Request) (items : List ℕ) → withinLimits longest q items ≡ withinLimits longest q [] && every (λ x. ltb x (itemEnd (q .area))) items
+within-each : (longest : Seconds) (q : Request) (items : List ℕ) → withinLimits longest q items ≡ withinLimits longest q [] && every (λ x. ltb x (itemEnd (q .area))) items
 unfolding withinLimits every
 within-each longest q items = simp and-true
 
 -- of a request with n items, under a longest period
-module _ (longest : ℕ) (q : Request) (items : List ℕ) {n : ℕ} (e : length items ≡ n) {kind area : Bool} (k : kind ≡ kindAllows q) (a : area ≡ areaFits q n) where
+module _ (longest : Seconds) (q : Request) (items : List ℕ) {n : ℕ} (e : length items ≡ n) {kind area : Bool} (k : kind ≡ kindAllows q) (a : area ≡ areaFits q n) where
   pub fields-refused : not (kind && area) ≡ true → Refused RecordFields ≡ requestVerdict longest q items
   unfolding requestVerdict
   fields-refused t = rw (e, ← k, ← a, not-true (kind && area) t)

@@ -1,7 +1,7 @@
 -- What the reader finds in bytes is what the rules say of them: fields at their offsets, items one after the other, and the order of 3 to 7.
 -- By the law of fields, by one item at a time, and by the tests that decide.
 use mathlib.Core.Path.{_≡_, refl, sym, _∙_}
-use mathlib.Core.Bool.{Bool, true, false, cond, not, _&&_, _||_, and-assoc, and-true}
+use mathlib.Core.Bool.{Bool, true, false, not, _&&_, _||_, and-assoc, and-true}
 use mathlib.Core.List.{List, [], _∷_, map}
 use Prim.Native.Nat.{ℕ, _+_, _*_, _≤_, _<_}
 use native.Mathlib.Omega.{arith}
@@ -13,8 +13,8 @@ use borrow.Author.Tests.{leb-true, le-leb, lt-leb, eq-eqb, ne-eqb, not-true, not
 use Rattle.octets.specs.Runs.{Bytes, gets, pieces}
 use Rattle.octets.specs.Numbers.{be}
 use Rattle.octets.specs.Fields.{offset}
-use Rattle.rules.specs.Layout.{current, field, recordFields, recordSize, itemSize, recordMark, mostItems}
-use Rattle.rules.specs.Record.{versionIn, takes, longestAsked, identifierToSib, notified, requestOf, itemsOf, itemCount, zeroByte, recordMarked}
+use Rattle.rules.specs.Layout.{current, fieldOf, markField, recordFields, recordSize, itemSize, recordMark, mostItems}
+use Rattle.rules.specs.Record.{versionIn, takesVersion, longestAsked, identifierToSib, cancelZeros, notified, requestOf, itemsOf, itemCount, zeroByte, recordMarked}
 use Rattle.rules.specs.Refusals.{requestVerdict, recordVerdict}
 use Rattle.rules.specs.Applied.{readBy, reading, readOf}
 use Rattle.rules.specs.declared.Request.{Request}
@@ -33,7 +33,7 @@ use Rattle.rules.proofs.RecordTrips.{record-accepted}
 
 -- ---- fields
 
-pub record-field : (r : List ℕ) → recordSize ≤ length r → (k : ℕ) → field recordFields k r ≡ be (gets r (offset recordFields k) (getD recordFields k 0))
+pub record-field : (r : List ℕ) → recordSize ≤ length r → (k : ℕ) → fieldOf recordFields k r ≡ be (gets r (offset recordFields k) (getD recordFields k 0))
 record-field r h = field-at recordFields r (rw record-size h)
 
 -- ---- mark and version
@@ -97,7 +97,7 @@ module _ (r : List ℕ) (h : recordSize ≤ length r) where
 
   -- those of a cancel; `named` says that flag 4 is there
   pub cancelled-zeros : {named : Bool} → named ≡ notified (requestOf r) → eqb (be (gets r 12 8)) 0 && eqb (be (gets r 22 1)) 0 && (named || eqb (be (gets r 8 4)) 0)
-      ≡ zeros (requestOf r .content ∷ requestOf r .period .0 ∷ requestOf r .sib ∷ cond (notified (requestOf r)) [] (requestOf r .identifier ∷ requestOf r .serial ∷ []))
+      ≡ zeros (cancelZeros (requestOf r))
   unfolding requestOf offset
   cancelled-zeros e =
       let f = record-field r h in
@@ -114,8 +114,8 @@ module _ (r : List ℕ) {marked : Bool} (m : marked ≡ recordMarked current r) 
     pub long-enough : recordSize ≤ length r
     unfolding recordMarked
     long-enough =
-        let h = both (leb recordSize (length r) && eqb (field recordFields 0 r) recordMark) (takes current (versionIn r)) (sym m ∙ not-false marked right) in
-        leb-true recordSize (length r) (both (leb recordSize (length r)) (eqb (field recordFields 0 r) recordMark) (h .0) .0)
+        let h = both (leb recordSize (length r) && eqb (fieldOf recordFields markField r) recordMark) (takesVersion current (versionIn r)) (sym m ∙ not-false marked right) in
+        leb-true recordSize (length r) (both (leb recordSize (length r)) (eqb (fieldOf recordFields markField r) recordMark) (h .0) .0)
 
     module _ {n : ℕ} (c : n ≡ itemCount r) where
       pub many-refused : mostItems < n → Refused RecordLength ≡ recordVerdict current r
@@ -132,7 +132,7 @@ module _ (r : List ℕ) {marked : Bool} (m : marked ≡ recordMarked current r) 
         zero-refused t = rw (← m, not-false marked right, ← c, le-leb n mostItems few, eq-eqb (length r) (recordSize + itemSize * n) size, ← z, ne-eqb zero 0 t)
 
         pub rest-judged : zero ≡ 0 → requestVerdict (longestAsked r) (requestOf r) (itemsOf r) ≡ recordVerdict current r
-        unfolding recordVerdict
+        unfolding recordVerdict requestVerdict
         rest-judged t = rw (← m, not-false marked right, ← c, le-leb n mostItems few, eq-eqb (length r) (recordSize + itemSize * n) size, ← z, eq-eqb zero 0 t)
 
 -- ---- what is read

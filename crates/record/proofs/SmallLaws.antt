@@ -1,18 +1,18 @@
 -- Items are judged all at once: joined, they are below their area's end exactly where each of them is, because every such end is a power of 2.
 -- One item at a time, by whether it is below; and then by the area.
 use mathlib.Core.Path.{_≡_, refl, _∙_}
-use mathlib.Core.Bool.{Bool, true, false, cond, _&&_}
+use mathlib.Core.Bool.{Bool, true, false, _&&_}
 use mathlib.Core.List.{List, [], _∷_}
 use Prim.Native.Nat.{ℕ, _^_}
 use native.Mathlib.Omega.{arith}
 use lib.Bits.{bitOr, or-lt}
-use lib.Dec.{eqb, ltb}
+use lib.Dec.{ltb}
 use borrow.Author.Tests.{ltb-true, ltb-false, lt-ltb, le-ltb}
 use Rattle.octets.specs.Joined.{joined}
 use Rattle.octets.proofs.JoinedLaws.{or-le-left, or-le-right}
 use Rattle.rules.specs.Lists.{every}
-use Rattle.rules.specs.Layout.{cellEnd, trackingEnd, emergencyEnd}
-use Rattle.rules.specs.Record.{cellArea, trackingArea, itemEnd}
+use Rattle.rules.specs.Record.{itemEndIn, itemEnd}
+use Rattle.rules.proofs.KindAreaLaws.{area-by}
 
 two-small : (k a x : ℕ) → ltb (bitOr a x) (2 ^ k) ≡ ltb a (2 ^ k) && ltb x (2 ^ k)
 two-small k a x = go (ltb a (2 ^ k)) (ltb x (2 ^ k)) refl refl
@@ -37,9 +37,5 @@ joined-small k a (x ∷ xs) =
     joined-small k (bitOr a x) xs ∙ rw (two-small k a x) (and-assoc (ltb a (2 ^ k)) (ltb x (2 ^ k)) (every (λ y. ltb y (2 ^ k)) xs))
 
 pub all-small : (area : ℕ) (xs : List ℕ) → ltb (joined 0 xs) (itemEnd area) ≡ every (λ x. ltb x (itemEnd area)) xs
-all-small area xs = go (eqb area cellArea) (eqb area trackingArea)
-  where
-    go : (p q : Bool) → ltb (joined 0 xs) (cond p cellEnd (cond q trackingEnd emergencyEnd)) ≡ every (λ x. ltb x (cond p cellEnd (cond q trackingEnd emergencyEnd))) xs
-    go true q = joined-small 60 0 xs
-    go false true = joined-small 48 0 xs
-    go false false = joined-small 24 0 xs
+all-small area xs =
+    area-by (λ a. ltb (joined 0 xs) (itemEndIn a) ≡ every (λ x. ltb x (itemEndIn a)) xs) area (λ _. joined-small 24 0 xs) (λ _. joined-small 60 0 xs) (λ _. joined-small 48 0 xs) (λ _. joined-small 24 0 xs) (joined-small 24 0 xs)

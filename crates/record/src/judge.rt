@@ -2,8 +2,9 @@
 ghost use mathlib.Core.Path.{_≡_};
 ghost use mathlib.Core.List.{[], _∷_};
 ghost use Rattle.rules.specs.Lists.{oneOf};
-ghost use Rattle.rules.specs.Record.{notified, areaFits, itemEnd, withinLimits, cancelsNothing};
+ghost use Rattle.rules.specs.Record.{anyArea, notified, areaFits, itemEnd, withinLimits, cancelsNothing};
 use rules::Request;
+use rules::Seconds;
 use rules::kind::CANCEL_ALL;
 use rules::kind::CANCEL_OR_KILL;
 use rules::kind::CELLS;
@@ -21,7 +22,7 @@ use rules::layout::TRACKING_END;
 // ---- 5: flags, areas and zero fields by kind
 
 pub fn any_area(area: u8) -> bool
-    ensures { λ r. ⌜ r ≡ oneOf area (0 ∷ 1 ∷ 2 ∷ 3 ∷ []) ⌝ }
+    ensures { λ r. ⌜ r ≡ oneOf area anyArea ⌝ }
 {
     area <= EMERGENCY_AREAS
 }
@@ -65,13 +66,13 @@ pub fn item_end(area: u8) -> u64
 }
 
 // The limits of a Write-Replace, under a longest period: those of a request without items.
-pub fn text_within(request: Request, longest: u32) -> bool
+pub fn text_within(request: Request, longest: Seconds) -> bool
     ensures { λ r. ⌜ r ≡ withinLimits longest request [] ⌝ }
 {
     if request.kind != WRITE_REPLACE {
         return true;
     }
-    (request.period.0 <= longest) & (FIRST_SIB <= request.sib) & (request.sib <= LAST_SIB)
+    (request.period.0 <= longest.0) & (FIRST_SIB <= request.sib) & (request.sib <= LAST_SIB)
 }
 
 // ---- 7

@@ -1,7 +1,6 @@
 // The reader: whether bytes are an accepted record, and what such a record says. The items stay in the record.
 ghost use mathlib.Core.Path.{_≡_};
-ghost use mathlib.Core.Bool.{cond};
-ghost use mathlib.Core.List.{map, [], _∷_};
+ghost use mathlib.Core.List.{map};
 ghost use Prim.Native.Nat.{_+_, _*_, _≤_};
 ghost use lib.Dec.{ltb};
 ghost use lib.ListN.{length, drop};
@@ -10,7 +9,7 @@ ghost use Rattle.octets.specs.Runs.{pieces};
 ghost use Rattle.rules.specs.Applied.{itemAt, readBy, readOf};
 ghost use Rattle.rules.specs.Layout.{current, itemSize, recordSize};
 ghost use Rattle.rules.specs.Lists.{every, zeros};
-ghost use Rattle.rules.specs.Record.{identifierToSib, itemCount, itemEnd, kindAllows, longestAsked, notified, requestOf};
+ghost use Rattle.rules.specs.Record.{cancelZeros, identifierToSib, itemCount, itemEnd, kindAllows, longestAsked, requestOf};
 ghost use Rattle.rules.specs.Refusals.{recordVerdict, requestVerdict};
 use crate::judge::any_area;
 use crate::judge::area_fits;
@@ -85,14 +84,14 @@ pub fn count(req: &[u8]) -> usize
 }
 
 // The longest period that a record may ask for: its own version says.
-fn longest_asked(req: &[u8]) -> u32
+fn longest_asked(req: &[u8]) -> Seconds
     requires { ⌜ recordSize ≤ length (now req) ⌝ }
     ensures { λ r. ⌜ r ≡ longestAsked (now (req .entry)) ⌝ }
 {
     if get16(req, VERSION_AT) == VERSION_1 as u16 {
-        return LONGEST_PERIOD_1;
+        return Seconds(LONGEST_PERIOD_1);
     }
-    LONGEST_PERIOD
+    Seconds(LONGEST_PERIOD)
 }
 
 // Whether each of the first n items is small enough for its area. Its end is a power of 2, so all of them are where all their bits are.
@@ -119,7 +118,7 @@ fn no_text(req: &[u8]) -> bool
 // The fields are zero that a cancel leaves out: content and period at once, and so identifier and serial number.
 fn cancel_zeros(req: &[u8]) -> bool
     requires { ⌜ recordSize ≤ length (now req) ⌝ }
-    ensures { λ r. ⌜ r ≡ zeros (requestOf (now (req .entry)) .content ∷ requestOf (now (req .entry)) .period .0 ∷ requestOf (now (req .entry)) .sib ∷ cond (notified (requestOf (now (req .entry)))) [] (requestOf (now (req .entry)) .identifier ∷ requestOf (now (req .entry)) .serial ∷ [])) ⌝ }
+    ensures { λ r. ⌜ r ≡ zeros (cancelZeros (requestOf (now (req .entry)))) ⌝ }
 {
     (get64(req, RECORD_CONTENT_AT) == 0)
         & (get8(req, RECORD_SIB_AT) == 0)

@@ -3,11 +3,11 @@ use mathlib.Core.Path.{refl}
 use mathlib.Core.List.{flatMap}
 use Rattle.octets.specs.Runs.{gets, pieces}
 use Rattle.octets.specs.Numbers.{be, toBe}
-use Rattle.octets.specs.Fields.{size, numbers, bytesOf, filled}
+use Rattle.octets.specs.Fields.{size, numbers, bytesOf, padded}
 use Rattle.rules.specs.Lists.{every, any, those, zeros, oneOf, above, ascending}
-use Rattle.rules.specs.Layout.{field}
+use Rattle.rules.specs.Layout.{fieldOf}
 use Rattle.rules.specs.Table.{headOf, headNumbers, headBytes, legalHead, placeOf, placeNumbers, placeBytes, isFree, isLive, liveFirst, placesOf, legalPlace, isText, running, different, legalPlaces, cellOf, placesBytes, cellBytes, legalCell, cellsOf, headerBytes, tableBytes, tableMarked, legalTable}
-use Rattle.rules.specs.Record.{requestOf, itemsOf, recordMarked, row, kindAllows, areaFits, withinLimits, cancelsNothing}
+use Rattle.rules.specs.Record.{requestOf, itemsOf, recordMarked, allowed, kindAllows, areaFits, withinLimits, cancelsNothing}
 use Rattle.rules.specs.Reach.{names, reaches}
 use Rattle.rules.specs.InCell.{reportedIfLive, startsNothing, newPlace, start, cancel, restart, failure, isDue, oneMore, withCounts, later, hasEnded, staysLive, second, inCell}
 use Rattle.rules.specs.Answer.{rowBytes, answerHead, answerBytes, roomFor}
@@ -19,5 +19,5 @@ use Rattle.report.specs.Report.{requestsSaid, openedSaid, report}
 use Rattle.report.specs.Example.{ExampleHolds}
 
 pub example-holds : ExampleHolds
-unfolding flatMap gets pieces be toBe size numbers bytesOf filled every any those zeros oneOf above ascending field headOf headNumbers headBytes legalHead placeOf placeNumbers placeBytes isFree isLive liveFirst placesOf legalPlace isText running different legalPlaces cellOf placesBytes cellBytes legalCell cellsOf headerBytes tableBytes tableMarked legalTable requestOf itemsOf recordMarked row kindAllows areaFits withinLimits cancelsNothing names reaches reportedIfLive startsNothing newPlace start cancel restart failure isDue oneMore withCounts later hasEnded staysLive second inCell rowBytes answerHead answerBytes roomFor tableVerdict requestVerdict recordVerdict applyVerdict stepCell cellRows outcome applied legalHeads buildVerdict fill emptyCell built glyph digits places decimal numberText cellText noText okText rowText rowSaid answerText saidOf cellsNamed ownSize frameOf stopsAt requestsSaid openedSaid report
+unfolding flatMap gets pieces be toBe size numbers bytesOf padded every any those zeros oneOf above ascending fieldOf headOf headNumbers headBytes legalHead placeOf placeNumbers placeBytes isFree isLive liveFirst placesOf legalPlace isText running different legalPlaces cellOf placesBytes cellBytes legalCell cellsOf headerBytes tableBytes tableMarked legalTable requestOf itemsOf recordMarked allowed kindAllows areaFits withinLimits cancelsNothing names reaches reportedIfLive startsNothing newPlace start cancel restart failure isDue oneMore withCounts later hasEnded staysLive second inCell rowBytes answerHead answerBytes roomFor tableVerdict requestVerdict recordVerdict applyVerdict stepCell cellRows outcome applied legalHeads buildVerdict fill emptyCell built glyph digits places decimal numberText cellText noText okText rowText rowSaid answerText saidOf cellsNamed ownSize frameOf stopsAt requestsSaid openedSaid report
 example-holds = refl

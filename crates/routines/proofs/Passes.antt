@@ -48,7 +48,7 @@ later-fit p fit =
     let sent : p .sent .0 < 256 ^ 2 = at 5 in
     let wait : p .wait .0 < 256 ^ 4 = at 6 in
     by-test (isDue p)
-    (λ d. rw (later-due p d) (fit-counts p fit _ _ (omega (arith, oneMore-most (p .sent .0) (omega arith))) (omega arith)))
+    (λ d. rw (later-due p d) (fit-counts p fit _ _ (omega (arith, oneMore-most (p .sent) (omega arith))) (omega arith)))
     (λ d. rw (later-waits p d) (fit-counts p fit _ _ sent (omega arith)))
 
 pub stays-or-ended : (p : Place) → legalPlace current p ≡ true → staysLive p ≡ not (hasEnded (later p))

@@ -13,9 +13,10 @@ use Rattle.octets.proofs.RunsLaws.{sets-run}
 use Rattle.rules.specs.Lists.{every, those}
 use Rattle.rules.specs.Layout.{current, placesPerCell, rowSize}
 use Rattle.rules.specs.Table.{legalPlace, cellOf, placeRuns}
-use Rattle.rules.specs.InCell.{Told, isDue, later, withCounts, hasEnded, second}
+use Rattle.rules.specs.InCell.{Told, isDue, oneLess, later, withCounts, hasEnded, second}
 use Rattle.rules.specs.Answer.{rowBytes}
 use Rattle.rules.specs.Applied.{rowOf}
+use Rattle.rules.specs.declared.Seconds.{Seconds}
 use Rattle.rules.specs.declared.Place.{Place}
 use Rattle.rules.proofs.ListsLaws.{both}
 use Rattle.rules.proofs.SecondLaws.{later-waits}
@@ -161,13 +162,13 @@ module _ {c₀ o₀ c o : List ℕ} {k n gone : ℕ} where
       turn-airs t (due p (rw e at z)) c′ o′ r (a .one) (rw e at (a .cell)) (rw e at (a .row)) (rw e at (a .ended))
 
   waits-on : (passed rest : List Place) → Ticks c₀ o₀ c o k n gone passed rest → k < length (livePlaces c) → (placeAt c k .wait .0 ≡ 0 → ⊥)
-      → (wait : ℕ) → wait ≡ placeAt c k .wait .0 - 1
-      → (c′ : List ℕ) → c′ ≡ withPlaces c (set (livePlaces c) k (withCounts (placeAt c k) (placeAt c k .sent .0) wait)) → Ticking c₀ o₀ c′ o (k + 1) n gone
+      → (wait : Seconds) → wait .0 ≡ oneLess (placeAt c k .wait) .0
+      → (c′ : List ℕ) → c′ ≡ withPlaces c (set (livePlaces c) k (withCounts (placeAt c k) (placeAt c k .sent) wait)) → Ticking c₀ o₀ c′ o (k + 1) n gone
   waits-on passed [] t live z wait ew c′ a = absurd (omega (arith, pass-many (t .pass)))
   waits-on passed (p ∷ rest) t live z wait ew c′ a =
       let e : placeAt c k ≡ p = next-place (t .pass) in
       let d : isDue p ≡ false = waits p (rw e at z) in
-      let l : later p ≡ withCounts p (p .sent .0) wait = later-waits p d ∙ rw (ew, e) in
+      let l : later p ≡ withCounts p (p .sent) wait = later-waits p d ∙ ap (withCounts p (p .sent)) (ap (λ n. record { 0 = n }) (sym (rw e at ew))) in
       turn-waits t d c′ (a ∙ rw (e, l))
 
   over : (passed rest : List Place) → Ticks c₀ o₀ c o k n gone passed rest → length (livePlaces c) ≤ k → AllLater c₀ o₀ c o n gone
@@ -196,8 +197,8 @@ module _ {c₀ o₀ c o : List ℕ} {k n gone : ℕ} where
     pub tick-airs : k < length (livePlaces c) → placeAt c k .wait .0 ≡ 0 → (c′ o′ : List ℕ) (r : ℕ) → Aired c o k n c′ o′ r → Ticking c₀ o₀ c′ o′ (k + 1) (n + 1) (gone + r)
     tick-airs = airs (g .passed) (g .rest) (g .ticks)
 
-    pub tick-waits : k < length (livePlaces c) → (placeAt c k .wait .0 ≡ 0 → ⊥) → (wait : ℕ) → wait ≡ placeAt c k .wait .0 - 1
-        → (c′ : List ℕ) → c′ ≡ withPlaces c (set (livePlaces c) k (withCounts (placeAt c k) (placeAt c k .sent .0) wait)) → Ticking c₀ o₀ c′ o (k + 1) n gone
+    pub tick-waits : k < length (livePlaces c) → (placeAt c k .wait .0 ≡ 0 → ⊥) → (wait : Seconds) → wait .0 ≡ oneLess (placeAt c k .wait) .0
+        → (c′ : List ℕ) → c′ ≡ withPlaces c (set (livePlaces c) k (withCounts (placeAt c k) (placeAt c k .sent) wait)) → Ticking c₀ o₀ c′ o (k + 1) n gone
     tick-waits = waits-on (g .passed) (g .rest) (g .ticks)
 
     pub tick-ends : length (livePlaces c) ≤ k → AllLater c₀ o₀ c o n gone

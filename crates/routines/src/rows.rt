@@ -4,6 +4,7 @@ use octets::put16;
 use octets::put32;
 use octets::put64;
 use rules::Broadcasts;
+use rules::CellIdentity;
 use rules::layout::CONTENT_IN_ROW_AT;
 use rules::layout::COUNT_IN_ROW_AT;
 ghost use mathlib.Core.Path.{_≡_};
@@ -16,11 +17,11 @@ ghost use Rattle.rules.specs.Answer.{rowBytes};
 ghost use Rattle.routines.specs.Step.{rowsBytes};
 
 // A row at an index of the answer.
-pub fn put_row(out: &mut [u8], at: usize, identity: u64, count: Broadcasts, content: u32)
+pub fn put_row(out: &mut [u8], at: usize, identity: CellIdentity, count: Broadcasts, content: u32)
     requires { ⌜ at + rowSize ≤ length (now out) ⌝ }
-    ensures { λ _. ⌜ now (out .exit) ≡ sets (now (out .entry)) at (rowBytes (record { identity = identity; count = count .0; content = content })) ⌝ }
+    ensures { λ _. ⌜ now (out .exit) ≡ sets (now (out .entry)) at (rowBytes (record { identity = identity .0; count = count .0; content = content })) ⌝ }
 {
-    put64(out, at, identity);
+    put64(out, at, identity.0);
     put16(out, at + COUNT_IN_ROW_AT, count.0);
     put32(out, at + CONTENT_IN_ROW_AT, content);
 }

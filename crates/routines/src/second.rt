@@ -18,10 +18,9 @@ use rules::layout::PLACES;
 use rules::layout::ROW;
 ghost use mathlib.Core.Path.{_≡_};
 ghost use mathlib.Core.Bool.{not, _&&_};
-ghost use Prim.Native.Nat.{_-_};
 ghost use lib.Dec.{eqb};
 ghost use Rattle.rules.specs.Layout.{placesPerCell};
-ghost use Rattle.rules.specs.InCell.{oneMore, hasEnded, second};
+ghost use Rattle.rules.specs.InCell.{oneMore, oneLess, hasEnded, second};
 ghost use Rattle.cell.specs.Places.{livePlaces, withPlaces, Formed, placeAt, LiveAt};
 ghost use Rattle.routines.specs.Step.{Ready, Stepped};
 ghost use Rattle.routines.specs.Second.{goingOn, ToAir, Aired, AllLater};
@@ -118,7 +117,7 @@ fn all_sent(requested: Broadcasts, sent: Broadcasts) -> bool
 
 // "sent goes up by one but stays at 65,535"
 fn one_more(sent: Broadcasts) -> Broadcasts
-    ensures { λ r. ⌜ r .0 ≡ oneMore (sent .0) ⌝ }
+    ensures { λ r. ⌜ r .0 ≡ oneMore sent .0 ⌝ }
 {
     if sent.0 < MOST_SENT {
         Broadcasts(sent.0 + 1)
@@ -128,7 +127,7 @@ fn one_more(sent: Broadcasts) -> Broadcasts
 }
 
 fn one_less(seconds: Seconds) -> Seconds
-    ensures { λ r. ⌜ r .0 ≡ seconds .0 - 1 ⌝ }
+    ensures { λ r. ⌜ r .0 ≡ oneLess seconds .0 ⌝ }
 {
     if 0 < seconds.0 {
         Seconds(seconds.0 - 1)

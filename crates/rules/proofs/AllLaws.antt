@@ -9,7 +9,7 @@ use native.Mathlib.Omega.{arith}
 use lib.ListN.{length, take, drop, getD, length-append, length-take, length-drop}
 use lib.Seq.{getD-take, getD-drop, length-take-le, take-at, drop-at}
 use Rattle.octets.specs.Runs.{Bytes, pieces}
-use Rattle.octets.specs.Fields.{filled}
+use Rattle.octets.specs.Fields.{padded}
 use Rattle.octets.proofs.RunsLaws.{bytes-take, bytes-drop, bytes-append}
 use Rattle.rules.specs.Lists.{every}
 use Rattle.rules.proofs.ListsLaws.{both, and-true}
@@ -63,11 +63,11 @@ pub all-of : {A : Type 0} {P : A → Type 0} → ((x : A) → P x) → (xs : Lis
 all-of k [] = none
 all-of k (x ∷ xs) = more (k x) (all-of k xs)
 
-pub all-filled : {A : Type 0} {P : A → Type 0} (n : ℕ) (z : A) → P z → {xs : List A} → All P xs → All P (filled n z xs)
-unfolding filled
-all-filled zero z h ps = none
-all-filled (suc n) z h none = more h (all-filled n z h none)
-all-filled (suc n) z h (more p ps) = more p (all-filled n z h ps)
+pub all-padded : {A : Type 0} {P : A → Type 0} (n : ℕ) (z : A) → P z → {xs : List A} → All P xs → All P (padded n z xs)
+unfolding padded
+all-padded zero z h ps = none
+all-padded (suc n) z h none = more h (all-padded n z h none)
+all-padded (suc n) z h (more p ps) = more p (all-padded n z h ps)
 
 -- ---- lists that are joined
 

@@ -27,7 +27,7 @@ use Rattle.rules.proofs.LayoutLaws.{record-size, answer-size, row-size}
 use Rattle.rules.proofs.FitLaws.{Fit-fits, length-written}
 use Rattle.rules.proofs.ListsLaws.{by-test}
 use Rattle.rules.proofs.AllLaws.{every-all, all-imply, map-all}
-use Rattle.rules.proofs.VerdictLaws.{then-accepted, unless-accepted}
+use Rattle.rules.proofs.VerdictLaws.{then-accepted, unless-accepted, apply-chain}
 use Rattle.rules.proofs.RecordCodec.{numbers-back}
 use Rattle.rules.proofs.RenewedLaws.{request-renewed, mark-renewed, version-renewed, zero-renewed, count-renewed, length-renewed, bytes-renewed}
 use Rattle.rules.proofs.RecordTrips.{AcceptedRecord, record-accepted, within-own}
@@ -44,9 +44,8 @@ module _ (v : Version) where
     pub enough : roomFor (requestOf r .kind) (cellCount t) ≤ room
 
   pub call-accepted : (t r : List ℕ) (room : ℕ) → applyVerdict v t r room ≡ Accepted → AcceptedCall t r room
-  unfolding applyVerdict
   call-accepted t r room e =
-      let a = then-accepted (tableVerdict v t) _ e in
+      let a = then-accepted (tableVerdict v t) _ (sym (apply-chain v t r room) ∙ e) in
       let b = then-accepted (recordVerdict v r) _ (a .1) in
       record {
         table = a .0;
@@ -57,8 +56,7 @@ module _ (v : Version) where
   -- acceptance depends on the record, the buffer's length and N alone: legal tables of one size are alike to it
   pub acceptance-stays : (t u r : List ℕ) (room : ℕ) → tableVerdict v t ≡ Accepted → tableVerdict v u ≡ Accepted → cellCount t ≡ cellCount u
       → applyVerdict v t r room ≡ applyVerdict v u r room
-  unfolding applyVerdict
-  acceptance-stays t u r room a b n = rw (a, b, n)
+  acceptance-stays t u r room a b n = rw (apply-chain v t r room, apply-chain v u r room, a, b, n)
 
   -- a record's fields fit, since they were read from bytes
   numbers-fit : (r : List ℕ) → Bytes r → AcceptedRecord v r → fits recordFields (requestNumbers (requestOf r) (itemCount r)) ≡ true

@@ -10,12 +10,11 @@ use Rattle.octets.specs.Runs.{Bytes}
 use Rattle.octets.proofs.RunsLaws.{length-pieces, take-sets-front}
 use Rattle.rules.specs.Layout.{current, headerSize, headSize, cellSize}
 use Rattle.rules.specs.Table.{cellsOf, tableBytes}
-use Rattle.rules.specs.Refusals.{tableVerdict, headCount, headRuns, legalHeads, buildVerdict}
+use Rattle.rules.specs.Refusals.{tableVerdict, headCount, headRuns, legalHeads, buildTests, buildVerdict}
 use Rattle.rules.specs.Applied.{fill, emptyCell, built}
-use Rattle.rules.specs.declared.Refusal.the-variants.{BadHeads, ShortBuffer}
 use Rattle.rules.specs.declared.Verdict.the-variants.{Accepted}
 use borrow.Author.Tests.{leb-true}
-use Rattle.rules.proofs.VerdictLaws.{then-accepted, unless-accepted}
+use Rattle.rules.proofs.VerdictLaws.{all-held}
 use Rattle.rules.proofs.OutcomeLaws.{built-accepted}
 use Rattle.rules.proofs.TableCodec.{heads-sound, table-legal, table-again, length-tableBytes}
 
@@ -26,10 +25,10 @@ pub record AcceptedHeads (heads : List ℕ) (room : ℕ) : Type 0 where
 pub heads-accepted : (heads : List ℕ) (room : ℕ) → buildVerdict heads room ≡ Accepted → AcceptedHeads heads room
 unfolding buildVerdict
 heads-accepted heads room e =
-    let a = then-accepted _ _ e in
+    let h = all-held (buildTests heads room) e in
     record {
-      legal = unless-accepted (legalHeads heads) BadHeads (a .0);
-      enough = leb-true (headerSize + cellSize current * headCount heads) room (unless-accepted _ ShortBuffer (a .1));
+      legal = h .0;
+      enough = leb-true (headerSize + cellSize current * headCount heads) room (h .1 .0);
     }
 
 pub length-built : (heads : List ℕ) → length (tableBytes current (map emptyCell (headRuns heads))) ≡ headerSize + cellSize current * headCount heads

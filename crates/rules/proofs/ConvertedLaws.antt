@@ -22,6 +22,7 @@ use Rattle.rules.proofs.AllLaws.{all-every, every-all, all-imply}
 use Rattle.rules.proofs.SoundPlaceLaws.{sound-facts, facts-sound, places-facts, facts-places}
 use Rattle.rules.proofs.CellCodec.{sound-cell}
 use Rattle.rules.proofs.TableCodec.{sound-cells, cells-sound, table-sound, table-again, table-legal, count-tableBytes, length-cellsOf, length-tableBytes}
+use Rattle.rules.proofs.VerdictLaws.{apply-chain}
 use Rattle.rules.proofs.RecordTrips.{record-accepted, accepted-record}
 use Rattle.rules.proofs.OutcomeLaws.{applied-accepted}
 use Rattle.rules.proofs.AppliedLaws.{call-accepted, applied-cells}
@@ -100,10 +101,9 @@ module _ (t : List ℕ) (bytes : Bytes t) (accepted : tableVerdict version1 t �
     old-accepted = applied-accepted version1 t r a zero
 
     still-accepted : applyVerdict current (converted t) r (length a) ≡ Accepted
-    unfolding applyVerdict
     still-accepted =
         let c = call-accepted version1 t r (length a) old-accepted in
-        rw (converted-legal, record-still r (c .req), converted-count, le-leb (roomFor (requestOf r .kind) (cellCount t)) (length a) (c .enough))
+        rw (apply-chain current (converted t) r (length a), converted-legal, record-still r (c .req), converted-count, le-leb (roomFor (requestOf r .kind) (cellCount t)) (length a) (c .enough))
 
     -- the table that version 1 leaves, converted
     table-after : converted (applied version1 t r a .table) ≡ tableBytes current (map (stepCell (requestOf r) (itemsOf r)) (cellsOf version1 t))

@@ -9,10 +9,10 @@ use Rattle.octets.specs.Runs.{gets}
 use Rattle.octets.specs.Numbers.{be}
 use Rattle.octets.specs.Fields.{size, offset, numbers}
 use Rattle.octets.proofs.RunsLaws.{gets-eq, gets-drop}
-use Rattle.rules.specs.Layout.{field}
+use Rattle.rules.specs.Layout.{fieldOf}
 
-pub field-at : (ws l : List ℕ) → size ws ≤ length l → (k : ℕ) → field ws k l ≡ be (gets l (offset ws k) (getD ws k 0))
-unfolding field numbers size offset be gets
+pub field-at : (ws l : List ℕ) → size ws ≤ length l → (k : ℕ) → fieldOf ws k l ≡ be (gets l (offset ws k) (getD ws k 0))
+unfolding fieldOf numbers size offset be gets
 field-at [] l h k = refl
 field-at (w ∷ ws) l h zero = rw (gets-eq w l 0 (omega arith))
 field-at (w ∷ ws) l h (suc k) =

@@ -9,10 +9,10 @@ use borrow.Author.Tests.{ltb-true, leb-true, lt-ltb, le-leb}
 use lib.ListN.{length, take, drop, length-drop, take-append-drop}
 use lib.Seq.{length-take-le}
 use Rattle.octets.specs.Runs.{Bytes}
-use Rattle.octets.specs.Fields.{size, numbers, Fit, filled}
-use Rattle.octets.proofs.FieldsLaws.{length-filled, filled-append, take-filled, drop-filled, fit-numbers, bytes-bytesOf}
+use Rattle.octets.specs.Fields.{size, numbers, Fit, padded}
+use Rattle.octets.proofs.FieldsLaws.{length-padded, padded-append, take-padded, drop-padded, fit-numbers, bytes-bytesOf}
 use Rattle.rules.specs.Lists.{zeros, ascending}
-use Rattle.rules.specs.Layout.{field, headFields, headSize, mostAreas, cellEnd}
+use Rattle.rules.specs.Layout.{fieldOf, headFields, headSize, mostAreas, cellEnd}
 use Rattle.rules.specs.Table.{Head, areasUsed, allAreas, headOf, headNumbers, headBytes, legalHead}
 use Rattle.rules.specs.Sound.{soundHead}
 use Rattle.rules.proofs.ListsLaws.{both, zeros-replicate, replicate-zeros}
@@ -61,11 +61,11 @@ sound-head h e =
 -- ---- from bytes
 
 -- what is zero from n on is filled up with zeros again
-filled-zeros : (n : ℕ) (xs : List ℕ) → n ≤ length xs → zeros (drop n xs) ≡ true → filled (length xs) 0 (take n xs) ≡ xs
-filled-zeros n xs h z =
+padded-zeros : (n : ℕ) (xs : List ℕ) → n ≤ length xs → zeros (drop n xs) ≡ true → padded (length xs) 0 (take n xs) ≡ xs
+padded-zeros n xs h z =
     let t : length (take n xs) ≡ n = length-take-le n xs h in
     let d : length (drop n xs) ≡ length xs - n = length-drop n xs in
-    filled-append (length xs) 0 (take n xs) (omega arith)
+    padded-append (length xs) 0 (take n xs) (omega arith)
     ∙ rw (t, ← d, ← zeros-replicate (drop n xs) z) (take-append-drop n xs)
 
 module _ (b : List ℕ) (bytes : Bytes b) (long : length b ≡ headSize) (legal : legalHead b ≡ true) where
@@ -74,10 +74,10 @@ module _ (b : List ℕ) (bytes : Bytes b) (long : length b ≡ headSize) (legal 
   used = length-take-le (areasUsed b) (allAreas b) (legal-head b legal .few)
 
   same-numbers : headNumbers (headOf b) ≡ numbers headFields b
-  unfolding headNumbers headOf numbers field
+  unfolding headNumbers headOf numbers fieldOf
   same-numbers =
       let few : areasUsed b ≤ length (allAreas b) = legal-head b legal .few in
-      rw (used, filled-zeros (areasUsed b) (allAreas b) few (legal-head b legal .spare))
+      rw (used, padded-zeros (areasUsed b) (allAreas b) few (legal-head b legal .spare))
 
   pub head-back : headBytes (headOf b) ≡ b
   unfolding headBytes size
@@ -93,7 +93,7 @@ module _ (b : List ℕ) (bytes : Bytes b) (long : length b ≡ headSize) (legal 
 
 pub length-headBytes : (h : Head) → length (headBytes h) ≡ headSize
 unfolding headBytes headNumbers size
-length-headBytes h = length-written headFields (headNumbers h) (ap (λ n. suc (suc (suc n))) (length-filled mostAreas 0 (h .areas)))
+length-headBytes h = length-written headFields (headNumbers h) (ap (λ n. suc (suc (suc n))) (length-padded mostAreas 0 (h .areas)))
 
 module _ (h : Head) (sound : soundHead h ≡ true) where
   written : numbers headFields (headBytes h) ≡ headNumbers h
@@ -105,10 +105,10 @@ module _ (h : Head) (sound : soundHead h ≡ true) where
   bytes-headBytes = bytes-bytesOf headFields (headNumbers h) (sound-head h sound .fit)
 
   pub head-again : headOf (headBytes h) ≡ h
-  unfolding headOf headNumbers field
-  head-again = rw (written, take-filled mostAreas 0 (h .areas) (sound-head h sound .few))
+  unfolding headOf headNumbers fieldOf
+  head-again = rw (written, take-padded mostAreas 0 (h .areas) (sound-head h sound .few))
 
   pub head-legal : legalHead (headBytes h) ≡ true
-  unfolding legalHead headNumbers field
+  unfolding legalHead headNumbers fieldOf
   head-legal =
-      rw (head-again, written, drop-filled mostAreas 0 (h .areas) (sound-head h sound .few), replicate-zeros (mostAreas - length (h .areas)), lt-ltb (h .identity) cellEnd (sound-head h sound .small), le-leb (length (h .areas)) mostAreas (sound-head h sound .few), sound-head h sound .order)
+      rw (head-again, written, drop-padded mostAreas 0 (h .areas) (sound-head h sound .few), replicate-zeros (mostAreas - length (h .areas)), lt-ltb (h .identity) cellEnd (sound-head h sound .small), le-leb (length (h .areas)) mostAreas (sound-head h sound .few), sound-head h sound .order)

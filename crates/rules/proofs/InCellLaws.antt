@@ -1,26 +1,27 @@
 -- What an accepted request does in a cell: its places stay sound, its rows are no more than document 01 has room for, and their numbers fit a row.
 -- By the request's kind, from the laws of each.
 use mathlib.Core.Path.{_≡_, refl}
-use mathlib.Core.Bool.{Bool, true, false, cond, _&&_}
+use mathlib.Core.Bool.{Bool, true, cond, _&&_}
 use mathlib.Core.List.{List, [], _∷_, flatMap}
 use Prim.Native.Nat.{ℕ, _^_, _≤_, _<_}
 use native.Mathlib.Omega.{arith}
-use lib.Dec.{eqb, ltb}
+use lib.Dec.{ltb}
 use lib.ListN.{length}
-use borrow.Author.Tests.{eqb-true, eqb-false, lt-ltb}
+use borrow.Author.Tests.{lt-ltb}
 use Rattle.rules.specs.Lists.{every}
-use Rattle.rules.specs.Layout.{Version, longestPeriod, placesPerCell, mostSent}
+use Rattle.rules.specs.Layout.{Version, longestPeriod, mostSent}
 use Rattle.rules.specs.Table.{isText}
 use Rattle.rules.specs.Record.{writeReplace, cancelOrKill, restartKind, failureKind, oneSecond, cancelAll}
 use Rattle.rules.specs.Sound.{soundPlace, soundPlaces, fitRequest}
-use Rattle.rules.specs.InCell.{Told, Done, start, cancel, restart, failure, second, reported, isDue, later, inCell}
-use Rattle.rules.specs.Answer.{rowsPerCell}
+use Rattle.rules.specs.InCell.{Told, Done, done, start, cancel, restart, failure, second, reported, isDue, later, ruleOf, inCell}
+use Rattle.rules.specs.Answer.{rowsBy, rowsPerCell}
 use Rattle.rules.specs.Refusals.{requestVerdict}
 use Rattle.rules.specs.declared.Request.{Request}
 use Rattle.rules.specs.declared.Place.{Place}
 use Rattle.rules.specs.declared.Verdict.the-variants.{Accepted}
 use Rattle.rules.proofs.ListsLaws.{cond-either, every-flatMap, every-cond}
-use Rattle.rules.proofs.VerdictLaws.{request-accepted, KnownKind, starts, cancels, restarts, fails, passes, kind-known}
+use Rattle.rules.proofs.KindAreaLaws.{kind-by}
+use Rattle.rules.proofs.VerdictLaws.{request-accepted}
 use Rattle.rules.proofs.SoundPlaceLaws.{SoundPlace, sound-facts, places-facts}
 use Rattle.rules.proofs.StartLaws.{start-sound, start-rows, start-few}
 use Rattle.rules.proofs.CancelLaws.{cancel-sound, restart-sound, failure-sound, live-rows, cancel-few, restart-few, failure-few}
@@ -51,24 +52,12 @@ module _ (q : Request) (ps : List Place) where
 
 -- ---- by kind
 
--- of the known kinds only a second is left
-only-second : (k : ℕ) → eqb k writeReplace ≡ false → eqb k cancelOrKill ≡ false → eqb k restartKind ≡ false → eqb k failureKind ≡ false → KnownKind k → k ≡ oneSecond
-only-second k a b c d (starts e) = absurd (eqb-false k writeReplace a e)
-only-second k a b c d (cancels e) = absurd (eqb-false k cancelOrKill b e)
-only-second k a b c d (restarts e) = absurd (eqb-false k restartKind c e)
-only-second k a b c d (fails e) = absurd (eqb-false k failureKind d e)
-only-second k a b c d (passes e) = e
-
--- what holds of each rule's outcome holds of the cell's
-pub inCell-by : (P : Done → Type 0) (q : Request) (ps : List Place) → (q .kind ≡ writeReplace → P (start q ps)) → P (cancel q ps) → P (restart ps) → P (failure ps)
-    → ((KnownKind (q .kind) → q .kind ≡ oneSecond) → P (second ps))
+-- what holds of each rule's outcome holds of the cell's; an unknown kind changes nothing
+pub inCell-by : (P : Done → Type 0) (q : Request) (ps : List Place) → (q .kind ≡ writeReplace → P (start q ps)) → P (cancel q ps) → P (restart ps) → P (failure ps) → P (second ps) → P (done ps [])
     → P (inCell q ps)
 unfolding inCell
-inCell-by P q ps begins stops empties drops ages =
-    cond-either P (eqb (q .kind) writeReplace) _ _ (λ a. begins (eqb-true (q .kind) writeReplace a)) λ a.
-    cond-either P (eqb (q .kind) cancelOrKill) _ _ (λ b. stops) λ b.
-    cond-either P (eqb (q .kind) restartKind) _ _ (λ c. empties) λ c.
-    cond-either P (eqb (q .kind) failureKind) _ _ (λ d. drops) (λ d. ages (only-second (q .kind) a b c d))
+inCell-by P q ps begins stops empties drops ages rest =
+    kind-by (λ k. P (ruleOf k q ps)) (q .kind) begins (λ _. stops) (λ _. empties) (λ _. drops) (λ _. ages) rest
 
 module _ (v : Version) where
   -- ---- an accepted request
@@ -81,19 +70,20 @@ module _ (v : Version) where
         (cancel-sound v q ps s)
         (restart-sound v ps)
         (failure-sound v ps)
-        (λ k. second-sound v ps s)
+        (second-sound v ps s)
+        s
 
     -- the room that document 01 asks for is enough
     pub inCell-few : length (inCell q ps .rows) ≤ rowsPerCell (q .kind)
+    unfolding inCell
     inCell-few =
-        let h = places-facts v ps s in
-        let one : 1 ≤ rowsPerCell (q .kind) = cond-either (λ n. 1 ≤ n) (eqb (q .kind) oneSecond) placesPerCell 1 (λ _. omega arith) (λ _. omega arith) in
-        inCell-by (λ d. length (d .rows) ≤ rowsPerCell (q .kind)) q ps
-        (λ k. omega (arith, start-few q ps))
-        (omega (arith, cancel-few q ps (h .apart)))
-        (omega (arith, restart-few ps))
-        (omega (arith, failure-few ps))
-        (λ k. rw (k (kind-known q (request-accepted (longestPeriod v) q items e .kind))) (omega (arith, second-few ps)))
+        kind-by (λ k. length (ruleOf k q ps .rows) ≤ rowsBy k) (q .kind)
+        (λ _. start-few q ps)
+        (λ _. cancel-few q ps (places-facts v ps s .apart))
+        (λ _. restart-few ps)
+        (λ _. failure-few ps)
+        (λ _. omega (arith, second-few ps, places-facts v ps s .few))
+        (omega arith)
 
 -- ---- the numbers of a row
 
@@ -130,4 +120,5 @@ module _ (v : Version) where
       (cond-either Fit (cancelAll q) _ _ (λ a. live) (λ a. picked-fit (isText (q .identifier) (q .serial)) _ (λ p h. told-fits (p .sent .0) 0 (omega arith) (omega arith)) ps s))
       zero-fits
       live
-      (λ k. picked-fit isDue _ (λ p h. told-fits (later p .sent .0) (p .content) (later-most p (omega arith)) (h .content)) ps s)
+      (picked-fit isDue _ (λ p h. told-fits (later p .sent .0) (p .content) (later-most p (omega arith)) (h .content)) ps s)
+      none-fit

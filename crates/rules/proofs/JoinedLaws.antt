@@ -8,7 +8,7 @@ use native.Mathlib.Omega.{arith}
 use lib.ListN.{length, getD, take, drop, set, length-append}
 use lib.Seq.{sets, take-at, drop-at}
 use Rattle.octets.specs.Runs.{gets}
-use Rattle.octets.specs.Fields.{filled}
+use Rattle.octets.specs.Fields.{padded}
 use Rattle.octets.proofs.PartsLaws.{gets-behind, gets-left, sets-behind, sets-left}
 use Rattle.rules.proofs.AllLaws.{All, none, more}
 
@@ -90,50 +90,50 @@ module _ (w : ℕ) where
 -- ---- filled up
 
 module _ {A : Type 0} (z : A) where
-  pub getD-filled : (n k : ℕ) (xs : List A) (d : A) → k < length xs → k < n → getD (filled n z xs) k d ≡ getD xs k d
-  unfolding filled
-  getD-filled zero k xs d h few = absurd (omega arith)
-  getD-filled (suc n) k [] d h few = absurd (omega arith)
-  getD-filled (suc n) zero (x ∷ xs) d h few = refl
-  getD-filled (suc n) (suc k) (x ∷ xs) d h few = getD-filled n k xs d (omega arith) (omega arith)
+  pub getD-padded : (n k : ℕ) (xs : List A) (d : A) → k < length xs → k < n → getD (padded n z xs) k d ≡ getD xs k d
+  unfolding padded
+  getD-padded zero k xs d h few = absurd (omega arith)
+  getD-padded (suc n) k [] d h few = absurd (omega arith)
+  getD-padded (suc n) zero (x ∷ xs) d h few = refl
+  getD-padded (suc n) (suc k) (x ∷ xs) d h few = getD-padded n k xs d (omega arith) (omega arith)
 
   -- behind what is there
-  pub getD-spare : (n k : ℕ) (xs : List A) (d : A) → length xs ≤ k → k < n → getD (filled n z xs) k d ≡ z
-  unfolding filled
+  pub getD-spare : (n k : ℕ) (xs : List A) (d : A) → length xs ≤ k → k < n → getD (padded n z xs) k d ≡ z
+  unfolding padded
   getD-spare zero k xs d h few = absurd (omega arith)
   getD-spare (suc n) zero [] d h few = refl
   getD-spare (suc n) (suc k) [] d h few = getD-spare n k [] d (omega arith) (omega arith)
   getD-spare (suc n) zero (x ∷ xs) d h few = absurd (omega arith)
   getD-spare (suc n) (suc k) (x ∷ xs) d h few = getD-spare n k xs d (omega arith) (omega arith)
 
-  pub set-filled : (n k : ℕ) (xs : List A) (x : A) → k < length xs → set (filled n z xs) k x ≡ filled n z (set xs k x)
-  unfolding filled
-  set-filled zero k xs x h = refl
-  set-filled (suc n) k [] x h = absurd (omega arith)
-  set-filled (suc n) zero (y ∷ xs) x h = refl
-  set-filled (suc n) (suc k) (y ∷ xs) x h = ap (λ (r : List A). y ∷ r) (set-filled n k xs x (omega arith))
+  pub set-padded : (n k : ℕ) (xs : List A) (x : A) → k < length xs → set (padded n z xs) k x ≡ padded n z (set xs k x)
+  unfolding padded
+  set-padded zero k xs x h = refl
+  set-padded (suc n) k [] x h = absurd (omega arith)
+  set-padded (suc n) zero (y ∷ xs) x h = refl
+  set-padded (suc n) (suc k) (y ∷ xs) x h = ap (λ (r : List A). y ∷ r) (set-padded n k xs x (omega arith))
 
   -- one more, behind what is there
-  pub filled-more : (n : ℕ) (xs : List A) (x : A) → length xs < n → set (filled n z xs) (length xs) x ≡ filled n z (xs ++ (x ∷ []))
-  unfolding filled
-  filled-more zero xs x h = absurd (omega arith)
-  filled-more (suc n) [] x h = refl
-  filled-more (suc n) (y ∷ xs) x h = ap (λ (r : List A). y ∷ r) (filled-more n xs x (omega arith))
+  pub padded-more : (n : ℕ) (xs : List A) (x : A) → length xs < n → set (padded n z xs) (length xs) x ≡ padded n z (xs ++ (x ∷ []))
+  unfolding padded
+  padded-more zero xs x h = absurd (omega arith)
+  padded-more (suc n) [] x h = refl
+  padded-more (suc n) (y ∷ xs) x h = ap (λ (r : List A). y ∷ r) (padded-more n xs x (omega arith))
 
   -- one less: what is behind it moves up, and another z fills up
-  pub filled-less : (n k : ℕ) (xs : List A) → k < length xs → length xs ≤ n
-      → take k (filled n z xs) ++ (drop (suc k) (filled n z xs) ++ (z ∷ [])) ≡ filled n z (take k xs ++ drop (suc k) xs)
-  unfolding filled
-  filled-less zero k xs h few = absurd (omega arith)
-  filled-less (suc n) k [] h few = absurd (omega arith)
-  filled-less (suc n) zero (x ∷ xs) h few = filled-again n xs (omega arith)
+  pub padded-less : (n k : ℕ) (xs : List A) → k < length xs → length xs ≤ n
+      → take k (padded n z xs) ++ (drop (suc k) (padded n z xs) ++ (z ∷ [])) ≡ padded n z (take k xs ++ drop (suc k) xs)
+  unfolding padded
+  padded-less zero k xs h few = absurd (omega arith)
+  padded-less (suc n) k [] h few = absurd (omega arith)
+  padded-less (suc n) zero (x ∷ xs) h few = padded-again n xs (omega arith)
     where
-      filled-again : (n : ℕ) (xs : List A) → length xs ≤ n → filled n z xs ++ (z ∷ []) ≡ filled (suc n) z xs
-      filled-again zero [] h = refl
-      filled-again zero (x ∷ xs) h = absurd (omega arith)
-      filled-again (suc n) [] h = ap (λ (r : List A). z ∷ r) (filled-again n [] (omega arith))
-      filled-again (suc n) (x ∷ xs) h = ap (λ (r : List A). x ∷ r) (filled-again n xs (omega arith))
-  filled-less (suc n) (suc k) (x ∷ xs) h few = ap (λ (r : List A). x ∷ r) (filled-less n k xs (omega arith) (omega arith))
+      padded-again : (n : ℕ) (xs : List A) → length xs ≤ n → padded n z xs ++ (z ∷ []) ≡ padded (suc n) z xs
+      padded-again zero [] h = refl
+      padded-again zero (x ∷ xs) h = absurd (omega arith)
+      padded-again (suc n) [] h = ap (λ (r : List A). z ∷ r) (padded-again n [] (omega arith))
+      padded-again (suc n) (x ∷ xs) h = ap (λ (r : List A). x ∷ r) (padded-again n xs (omega arith))
+  padded-less (suc n) (suc k) (x ∷ xs) h few = ap (λ (r : List A). x ∷ r) (padded-less n k xs (omega arith) (omega arith))
 
 pub map-set : {A B : Type 0} (f : A → B) (xs : List A) (k : ℕ) (x : A) → map f (set xs k x) ≡ set (map f xs) k (f x)
 map-set f [] k x = refl

@@ -25,11 +25,11 @@ number-fits version1 = omega arith
 number-fits version2 = omega arith
 
 -- a period may be a second at least, and the longest fits its field
-pub longest-some : (v : Version) → 1 ≤ longestPeriod v
+pub longest-some : (v : Version) → 1 ≤ longestPeriod v .0
 longest-some version1 = omega arith
 longest-some version2 = omega arith
 
-pub longest-fits : (v : Version) → longestPeriod v < 256 ^ secondsSize v
+pub longest-fits : (v : Version) → longestPeriod v .0 < 256 ^ secondsSize v
 longest-fits version1 = omega arith
 longest-fits version2 = omega arith
 

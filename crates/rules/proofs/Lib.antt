@@ -8,7 +8,9 @@ pub mod RecordTrips
 pub mod OutcomeLaws
 pub mod RoundTrips
 pub mod SamplesHold
+pub mod KindAreaLaws
 pub mod VerdictLaws
+pub mod VerdictsHold
 pub mod FitLaws
 pub mod PlaceLaws
 pub mod SoundPlaceLaws
@@ -31,3 +33,4 @@ pub mod ZerosLaws
 pub mod OffsetLaws
 pub mod FieldLaws
 pub mod OnceLaws
+pub mod IdentityLaws

@@ -9,16 +9,16 @@ use native.Mathlib.Omega.{arith}
 use borrow.Author.Tests.{eqb-true, le-leb}
 use lib.ListN.{length, replicate, length-replicate}
 use Rattle.octets.specs.Runs.{Bytes, pieces}
-use Rattle.octets.specs.Fields.{size, numbers, filled}
+use Rattle.octets.specs.Fields.{size, numbers, padded}
 use Rattle.octets.proofs.RunsLaws.{bytes-replicate-zero}
-use Rattle.octets.proofs.FieldsLaws.{length-filled, fit-numbers, bytes-bytesOf, numbers-zeros}
+use Rattle.octets.proofs.FieldsLaws.{length-padded, fit-numbers, bytes-bytesOf, numbers-zeros}
 use Rattle.rules.specs.Lists.{every, zeros}
-use Rattle.rules.specs.Layout.{Version, field, placeFields, placeSize, placesPerCell}
+use Rattle.rules.specs.Layout.{Version, fieldOf, liveInPlace, zeroInPlace, placeFields, placeSize, placesPerCell}
 use Rattle.rules.specs.Table.{placeOf, placeNumbers, placeBytes, freeBytes, isFree, isLive, liveFirst, placesOf, legalPlace, different, legalPlaces, placesBytes}
 use Rattle.rules.specs.Sound.{fits, soundPlace, soundPlaces}
 use Rattle.rules.specs.declared.Place.{Place}
 use Rattle.rules.proofs.ListsLaws.{both, and-true, zeros-replicate, replicate-zeros}
-use Rattle.rules.proofs.AllLaws.{All, none, more, all-every, every-all, all-imply, all-both, all-map, all-of, all-filled, bytes-flatMap-all, length-joined, pieces-joined}
+use Rattle.rules.proofs.AllLaws.{All, none, more, all-every, every-all, all-imply, all-both, all-map, all-of, all-padded, bytes-flatMap-all, length-joined, pieces-joined}
 use Rattle.rules.proofs.FitLaws.{fits-Fit, Fit-fits, numbers-written, numbers-again, length-written}
 use Rattle.rules.proofs.LayoutLaws.{place-size}
 use Rattle.rules.proofs.SoundPlaceLaws.{places-facts}
@@ -32,10 +32,10 @@ module _ (v : Version) where
 
   module _ (b : List ℕ) (bytes : Bytes b) (long : length b ≡ placeSize v) (live : isLive v b ≡ true) where
     same-numbers : placeNumbers (placeOf v b) ≡ numbers (placeFields v) b
-    unfolding placeNumbers placeOf numbers field isLive
+    unfolding placeNumbers placeOf numbers fieldOf isLive
     same-numbers =
         let h = both _ _ live in
-        rw (eqb-true (field (placeFields v) 8 b) 1 (h .0), eqb-true (field (placeFields v) 9 b) 0 (h .1))
+        rw (eqb-true (fieldOf (placeFields v) liveInPlace b) 1 (h .0), eqb-true (fieldOf (placeFields v) zeroInPlace b) 0 (h .1))
 
     pub place-back : placeBytes v (placeOf v b) ≡ b
     unfolding placeBytes size
@@ -50,7 +50,7 @@ module _ (v : Version) where
   free-back b e n = rw n at (zeros-replicate b e)
 
   zeros-not-live : (n : ℕ) → isLive v (replicate n 0) ≡ false
-  unfolding isLive field
+  unfolding isLive fieldOf
   zeros-not-live n = rw (numbers-zeros (placeFields v) n)
 
   -- no bytes are both live and free
@@ -74,11 +74,11 @@ module _ (v : Version) where
     written = numbers-written (placeFields v) (placeNumbers p) (fits-Fit (placeFields v) (placeNumbers p) fit)
 
     pub place-again : placeOf v (placeBytes v p) ≡ p
-    unfolding placeOf placeNumbers field
+    unfolding placeOf placeNumbers fieldOf
     place-again = rw written
 
     pub place-live : isLive v (placeBytes v p) ≡ true
-    unfolding isLive placeNumbers field
+    unfolding isLive placeNumbers fieldOf
     place-live = rw written
 
     pub place-not-free : isFree (placeBytes v p) ≡ false
@@ -108,13 +108,13 @@ module _ (v : Version) where
       go true i e more-live = free (more i (all-every isFree bs e))
       go false i e more-live = let h = both (isLive v b) (liveFirst v bs) e in live (h .0) (more-live (h .1))
 
-  refilled-free : {bs : List (List ℕ)} → All (λ b. isFree b ≡ true) bs → All PlaceRun bs → filled (length bs) (freeBytes v) [] ≡ bs
-  unfolding filled
+  refilled-free : {bs : List (List ℕ)} → All (λ b. isFree b ≡ true) bs → All PlaceRun bs → padded (length bs) (freeBytes v) [] ≡ bs
+  unfolding padded
   refilled-free none none = refl
   refilled-free (more {x = b} f fs) (more r rs) = rw (refilled-free fs rs, ← free-back b f (r .1))
 
-  refilled : {bs : List (List ℕ)} {ps : List Place} → LiveFirst bs ps → All PlaceRun bs → filled (length bs) (freeBytes v) (map (placeBytes v) ps) ≡ bs
-  unfolding filled
+  refilled : {bs : List (List ℕ)} {ps : List Place} → LiveFirst bs ps → All PlaceRun bs → padded (length bs) (freeBytes v) (map (placeBytes v) ps) ≡ bs
+  unfolding padded
   refilled (free fs) rs = refilled-free fs rs
   refilled (live {b} i l) (more r rs) = rw (refilled l rs, place-back b (r .0) (r .1) i)
 
@@ -140,7 +140,7 @@ module _ (v : Version) where
 
   module _ (bs : List (List ℕ)) (runs : All PlaceRun bs) where
     -- whatever their number
-    pub runs-back : liveFirst v bs ≡ true → filled (length bs) (freeBytes v) (map (placeBytes v) (placesOf v bs)) ≡ bs
+    pub runs-back : liveFirst v bs ≡ true → padded (length bs) (freeBytes v) (map (placeBytes v) (placesOf v bs)) ≡ bs
     runs-back e = refilled (live-first bs e) runs
 
     pub places-back : length bs ≡ placesPerCell → liveFirst v bs ≡ true → placesBytes v (placesOf v bs) ≡ flatMap (λ b. b) bs
@@ -161,42 +161,42 @@ module _ (v : Version) where
 
   -- the runs of a cell's places, the live ones first
   abbrev pub runsOf : List Place → List (List ℕ)
-  runsOf ps = filled placesPerCell (freeBytes v) (map (placeBytes v) ps)
+  runsOf ps = padded placesPerCell (freeBytes v) (map (placeBytes v) ps)
 
   sized : (ps : List Place) → All (λ b. length b ≡ placeSize v) (runsOf ps)
-  sized ps = all-filled placesPerCell (freeBytes v) (length-replicate (placeSize v) 0) (all-map (λ b. length b ≡ placeSize v) (placeBytes v) (all-of length-placeBytes ps))
+  sized ps = all-padded placesPerCell (freeBytes v) (length-replicate (placeSize v) 0) (all-map (λ b. length b ≡ placeSize v) (placeBytes v) (all-of length-placeBytes ps))
 
   pub length-placesBytes : (ps : List Place) → length (placesBytes v ps) ≡ placesPerCell * placeSize v
   unfolding placesBytes
-  length-placesBytes ps = rw (length-filled placesPerCell (freeBytes v) (map (placeBytes v) ps)) at (length-joined (placeSize v) (sized ps)) ∙ mul-comm (placeSize v) placesPerCell
+  length-placesBytes ps = rw (length-padded placesPerCell (freeBytes v) (map (placeBytes v) ps)) at (length-joined (placeSize v) (sized ps)) ∙ mul-comm (placeSize v) placesPerCell
 
   pub runs-of-places : (ps : List Place) → pieces (placeSize v) placesPerCell (placesBytes v ps) ≡ runsOf ps
   unfolding placesBytes
-  runs-of-places ps = rw (length-filled placesPerCell (freeBytes v) (map (placeBytes v) ps)) at (pieces-joined (placeSize v) (sized ps))
+  runs-of-places ps = rw (length-padded placesPerCell (freeBytes v) (map (placeBytes v) ps)) at (pieces-joined (placeSize v) (sized ps))
 
   free-is-free : isFree (freeBytes v) ≡ true
   unfolding isFree
   free-is-free = replicate-zeros (placeSize v)
 
-  all-free : (n : ℕ) → every isFree (filled n (freeBytes v) []) ≡ true
-  unfolding every filled
+  all-free : (n : ℕ) → every isFree (padded n (freeBytes v) []) ≡ true
+  unfolding every padded
   all-free zero = refl
   all-free (suc n) = rw free-is-free (all-free n)
 
   -- whatever their number
-  pub live-filled : (n : ℕ) {ps : List Place} → All FitPlace ps → liveFirst v (filled n (freeBytes v) (map (placeBytes v) ps)) ≡ true
-  unfolding liveFirst filled every
-  live-filled zero fs = refl
-  live-filled (suc n) none = rw free-is-free (all-free n)
-  live-filled (suc n) (more {x = p} f fs) = rw (place-not-free p f, place-live p f) (live-filled n fs)
+  pub live-padded : (n : ℕ) {ps : List Place} → All FitPlace ps → liveFirst v (padded n (freeBytes v) (map (placeBytes v) ps)) ≡ true
+  unfolding liveFirst padded every
+  live-padded zero fs = refl
+  live-padded (suc n) none = rw free-is-free (all-free n)
+  live-padded (suc n) (more {x = p} f fs) = rw (place-not-free p f, place-live p f) (live-padded n fs)
 
-  pub places-filled : (n : ℕ) {ps : List Place} → length ps ≤ n → All FitPlace ps
-      → placesOf v (filled n (freeBytes v) (map (placeBytes v) ps)) ≡ ps
-  unfolding placesOf filled
-  places-filled zero h none = refl
-  places-filled zero h (more f fs) = absurd (omega arith)
-  places-filled (suc n) h none = rw free-is-free
-  places-filled (suc n) h (more {x = p} f fs) = rw (place-not-free p f, place-again p f, places-filled n (omega arith) fs)
+  pub places-padded : (n : ℕ) {ps : List Place} → length ps ≤ n → All FitPlace ps
+      → placesOf v (padded n (freeBytes v) (map (placeBytes v) ps)) ≡ ps
+  unfolding placesOf padded
+  places-padded zero h none = refl
+  places-padded zero h (more f fs) = absurd (omega arith)
+  places-padded (suc n) h none = rw free-is-free
+  places-padded (suc n) h (more {x = p} f fs) = rw (place-not-free p f, place-again p f, places-padded n (omega arith) fs)
 
   pub sound-place : (p : Place) → soundPlace v p ≡ true → FitPlace p × (legalPlace v p ≡ true)
   unfolding soundPlace
@@ -211,15 +211,15 @@ module _ (v : Version) where
 
   module _ (ps : List Place) (sound : soundPlaces v ps ≡ true) where
     pub places-again : placesOf v (pieces (placeSize v) placesPerCell (placesBytes v ps)) ≡ ps
-    places-again = rw (runs-of-places ps) (places-filled placesPerCell (places-facts v ps sound .few) (places-fit ps sound))
+    places-again = rw (runs-of-places ps) (places-padded placesPerCell (places-facts v ps sound .few) (places-fit ps sound))
 
     pub places-legal : legalPlaces v (pieces (placeSize v) placesPerCell (placesBytes v ps)) ≡ true
     unfolding legalPlaces
     places-legal =
-        rw (places-again, runs-of-places ps, live-filled placesPerCell (places-fit ps sound), every-legal ps sound) (places-facts v ps sound .apart)
+        rw (places-again, runs-of-places ps, live-padded placesPerCell (places-fit ps sound), every-legal ps sound) (places-facts v ps sound .apart)
 
     pub bytes-placesBytes : Bytes (placesBytes v ps)
     unfolding placesBytes
     bytes-placesBytes =
         let each : All Bytes (map (placeBytes v) ps) = all-map Bytes (placeBytes v) (all-imply bytes-placeBytes (places-fit ps sound)) in
-        bytes-flatMap-all (λ b. b) (all-filled placesPerCell (freeBytes v) (bytes-replicate-zero (placeSize v)) each)
+        bytes-flatMap-all (λ b. b) (all-padded placesPerCell (freeBytes v) (bytes-replicate-zero (placeSize v)) each)

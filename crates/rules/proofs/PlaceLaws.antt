@@ -18,7 +18,7 @@ module _ (v : Version) where
   -- ---- a legal place
 
   pub record LegalPlace (p : Place) : Type 0 where
-    pub period : p .period .0 ≤ longestPeriod v
+    pub period : p .period .0 ≤ longestPeriod v .0
     pub once : p .period .0 ≡ 0 → p .requested .0 ≡ 1
     pub wait : p .wait .0 < larger (p .period .0) 1
     pub sent : (p .requested .0 ≡ 0 → ⊥) → p .sent .0 < p .requested .0
@@ -30,10 +30,10 @@ module _ (v : Version) where
       let a = both _ (leb firstSib (p .sib) && leb (p .sib) lastSib) e in
       let b = both _ (eqb (p .requested .0) 0 || ltb (p .sent .0) (p .requested .0)) (a .0) in
       let c = both _ (ltb (p .wait .0) (larger (p .period .0) 1)) (b .0) in
-      let d = both (leb (p .period .0) (longestPeriod v)) _ (c .0) in
+      let d = both (leb (p .period .0) (longestPeriod v .0)) _ (c .0) in
       let s = both (leb firstSib (p .sib)) (leb (p .sib) lastSib) (a .1) in
       record {
-        period = leb-true (p .period .0) (longestPeriod v) (d .0);
+        period = leb-true (p .period .0) (longestPeriod v .0) (d .0);
         once = λ z. eqb-true (p .requested .0) 1 (or-else (not (eqb (p .period .0) 0)) _ (d .1) (ap not (eq-eqb (p .period .0) 0 z)));
         wait = ltb-true (p .wait .0) (larger (p .period .0) 1) (c .1);
         sent = λ n. ltb-true (p .sent .0) (p .requested .0) (or-else (eqb (p .requested .0) 0) _ (b .1) (ne-eqb (p .requested .0) 0 n));
@@ -48,7 +48,7 @@ module _ (v : Version) where
       let s : eqb (p .requested .0) 0 || ltb (p .sent .0) (p .requested .0) ≡ true =
       else-or (eqb (p .requested .0) 0) _ (λ n. lt-ltb (p .sent .0) (p .requested .0) (l .sent (eqb-false (p .requested .0) 0 n))) in
       rw (
-        le-leb (p .period .0) (longestPeriod v) (l .period),
+        le-leb (p .period .0) (longestPeriod v .0) (l .period),
         o,
         lt-ltb (p .wait .0) (larger (p .period .0) 1) (l .wait),
         s,

@@ -1,20 +1,19 @@
 -- A record and the request that it says are each other's inverse: read then written gives the same bytes, written then read the same request and items.
 -- The head goes by the law of layouts, the items by one law over their width.
-use mathlib.Core.Path.{_≡_, refl, sym, ap, _∙_}
-use mathlib.Core.Bool.{Bool, true, false, _&&_}
+use mathlib.Core.Path.{_≡_, refl, ap, _∙_}
 use mathlib.Core.List.{List, [], _∷_, _++_, map, flatMap, append-assoc}
 use Prim.Native.Nat.{ℕ, zero, suc, _+_, _*_, _^_, _≤_, _<_}
 use native.Mathlib.Nat.{mul-suc}
 use native.Mathlib.Omega.{arith}
-use lib.ListN.{length, take, drop, getD, length-append, length-drop, length-take, length-map, take-append-drop}
+use lib.ListN.{length, take, drop, getD, length-drop, length-map, take-append-drop}
 use lib.Seq.{drop-at, length-take-le}
 use Rattle.octets.specs.Runs.{Bytes, pieces}
 use Rattle.octets.specs.Numbers.{be, toBe}
-use Rattle.octets.specs.Fields.{size, numbers, bytesOf, Fit}
+use Rattle.octets.specs.Fields.{numbers, bytesOf, Fit}
 use Rattle.octets.proofs.RunsLaws.{length-pieces, pieces-flatMap, bytes-take, bytes-drop}
 use Rattle.octets.proofs.NumbersLaws.{length-toBe, be-toBe, toBe-be}
 use Rattle.octets.proofs.FieldsLaws.{numbers-bytesOf, bytesOf-numbers, length-bytesOf}
-use Rattle.rules.specs.Layout.{field, recordFields, recordSize, itemSize, recordMark, recordVersion}
+use Rattle.rules.specs.Layout.{fieldOf, markField, versionField, recordFields, recordSize, itemSize, recordMark, recordVersion}
 use Rattle.rules.specs.Record.{requestOf, requestNumbers, recordBytes, itemsOf, itemCount, zeroByte}
 use Rattle.rules.specs.declared.Request.{Request}
 use Rattle.rules.proofs.LayoutLaws.{record-size}
@@ -48,9 +47,9 @@ length-itemsOf r =
 
 -- ---- the head of a record
 
-module _ (r : List ℕ) (mark : field recordFields 0 r ≡ recordMark) (version : field recordFields 1 r ≡ recordVersion) (zero : zeroByte r ≡ 0) where
+module _ (r : List ℕ) (mark : fieldOf recordFields markField r ≡ recordMark) (version : fieldOf recordFields versionField r ≡ recordVersion) (zero : zeroByte r ≡ 0) where
   pub numbers-back : requestNumbers (requestOf r) (itemCount r) ≡ numbers recordFields r
-  unfolding requestNumbers requestOf field numbers
+  unfolding requestNumbers requestOf fieldOf numbers
   numbers-back = rw (mark, version, zero)
 
   -- read, then written: the same bytes
@@ -71,8 +70,8 @@ module _ (q : Request) (items rest : List ℕ) (fit : Fit recordFields (requestN
   unfolding recordBytes
   numbers-again = rw append-assoc (numbers-bytesOf recordFields (requestNumbers q (length items)) (flatMap (toBe itemSize) items ++ rest) fit)
 
-  pub field-again : (k : ℕ) → field recordFields k (recordBytes q items ++ rest) ≡ getD (requestNumbers q (length items)) k 0
-  unfolding field
+  pub field-again : (k : ℕ) → fieldOf recordFields k (recordBytes q items ++ rest) ≡ getD (requestNumbers q (length items)) k 0
+  unfolding fieldOf
   field-again k = rw numbers-again
 
   pub request-again : requestOf (recordBytes q items ++ rest) ≡ q

@@ -1,31 +1,33 @@
 -- Demand 2 on records: what the writer accepts reads back as that request, items included; what the reader accepts is written as the same bytes.
 -- By the inverses of RecordCodec; each test of the reader is one of the writer, or holds of every record written.
-use mathlib.Core.Path.{_≡_}
+use mathlib.Core.Path.{_≡_, sym, _∙_}
 use mathlib.Core.Bool.{Bool, true, cond, not, _&&_, _||_}
 use mathlib.Core.List.{List, [], append-nil}
 use Prim.Native.Nat.{ℕ, zero, _+_, _*_, _^_, _≤_, _<_}
 use native.Mathlib.Omega.{arith}
 use lib.Dec.{eqb, ltb, leb}
 use lib.ListN.{length, getD, length-append}
-use borrow.Author.Tests.{ltb-true, leb-true, eqb-true, lt-ltb, le-leb, eq-eqb}
+use borrow.Author.Tests.{ltb-true, leb-true, eqb-true, not-true, lt-ltb, le-leb, eq-eqb}
 use Rattle.octets.specs.Numbers.{toBe}
 use Rattle.octets.specs.Fields.{Fit}
 use Rattle.octets.proofs.RunsLaws.{length-flatMap}
 use Rattle.octets.proofs.NumbersLaws.{length-toBe}
 use Rattle.octets.proofs.FieldsLaws.{length-bytesOf}
 use Rattle.rules.specs.Lists.{every}
-use Rattle.rules.specs.Layout.{Version, version1, version2, current, field, recordFields, recordSize, itemSize, recordMark, mostItems, longestPeriod, firstSib, lastSib}
-use Rattle.rules.specs.Record.{writeReplace, cellArea, trackingArea, versionIn, takes, longestAsked, requestOf, requestNumbers, recordBytes, itemsOf, itemCount, zeroByte, recordMarked, itemEnd, withinLimits}
-use Rattle.rules.specs.Refusals.{refuseUnless, _then_, requestVerdict, recordVerdict, writeVerdict}
+use Rattle.rules.specs.Layout.{Version, version1, version2, current, fieldOf, markField, recordFields, recordSize, itemSize, recordMark, mostItems, longestPeriod, firstSib, lastSib}
+use Rattle.rules.specs.Record.{writeReplace, versionIn, takesVersion, longestAsked, requestOf, requestNumbers, recordBytes, itemsOf, itemCount, zeroByte, recordMarked, kindAllows, areaFits, itemEndIn, itemEnd, withinLimits, cancelsNothing}
+use Rattle.rules.specs.Refusals.{refuseUnless, fewItems, recordTests, requestVerdict, recordVerdict, writeVerdict}
 use Rattle.rules.specs.Sound.{fits, fitRequest}
+use Rattle.rules.specs.declared.Seconds.{Seconds}
 use Rattle.rules.specs.declared.Request.{Request}
-use Rattle.rules.specs.declared.Refusal.the-variants.{RecordMark, RecordLength, RecordFields, ShortBuffer}
+use Rattle.rules.specs.declared.Refusal.the-variants.{RecordLength, ShortBuffer}
 use Rattle.rules.specs.declared.Verdict.the-variants.{Accepted}
 use Rattle.rules.proofs.ListsLaws.{both, cond-either}
 use Rattle.rules.proofs.AllLaws.{All, all-every, all-imply}
 use Rattle.rules.proofs.FitLaws.{fits-Fit}
 use Rattle.rules.proofs.LayoutLaws.{record-size}
-use Rattle.rules.proofs.VerdictLaws.{then-accepted, unless-accepted, request-accepted, allowed-longer}
+use Rattle.rules.proofs.KindAreaLaws.{area-by}
+use Rattle.rules.proofs.VerdictLaws.{then-accepted, unless-accepted, all-held, write-chain, request-accepted, accepted-request, allowed-longer}
 use Rattle.rules.proofs.RecordCodec.{field-again, request-again, items-again}
 
 -- ---- what acceptance gives
@@ -33,8 +35,8 @@ use Rattle.rules.proofs.RecordCodec.{field-again, request-again, items-
 -- by a unit of a version
 pub record AcceptedRecord (v : Version) (r : List ℕ) : Type 0 where
   pub long : recordSize ≤ length r
-  pub mark : field recordFields 0 r ≡ recordMark
-  pub version : takes v (versionIn r) ≡ true
+  pub mark : fieldOf recordFields markField r ≡ recordMark
+  pub version : takesVersion v (versionIn r) ≡ true
   pub few : itemCount r ≤ mostItems
   pub size : length r ≡ recordSize + itemSize * itemCount r
   pub zero : zeroByte r ≡ 0
@@ -43,31 +45,38 @@ pub record AcceptedRecord (v : Version) (r : List ℕ) : Type 0 where
 pub record-accepted : (v : Version) (r : List ℕ) → recordVerdict v r ≡ Accepted → AcceptedRecord v r
 unfolding recordVerdict recordMarked
 record-accepted v r e =
-    let m = then-accepted (refuseUnless (recordMarked v r) RecordMark) _ e in
-    let l = then-accepted (refuseUnless (leb (itemCount r) mostItems && eqb (length r) (recordSize + itemSize * itemCount r)) RecordLength) _ (m .1) in
-    let z = then-accepted (refuseUnless (eqb (zeroByte r) 0) RecordFields) _ (l .1) in
-    let m₂ = both (leb recordSize (length r) && eqb (field recordFields 0 r) recordMark) (takes v (versionIn r)) (unless-accepted (recordMarked v r) RecordMark (m .0)) in
-    let m₁ = both (leb recordSize (length r)) (eqb (field recordFields 0 r) recordMark) (m₂ .0) in
-    let l₁ = both (leb (itemCount r) mostItems) (eqb (length r) (recordSize + itemSize * itemCount r)) (unless-accepted _ RecordLength (l .0)) in
+    let h = all-held (recordTests v r) e in
+    let f = both (eqb (zeroByte r) 0 && kindAllows (requestOf r)) (areaFits (requestOf r) (length (itemsOf r))) (h .1 .1 .0) in
+    let z = both (eqb (zeroByte r) 0) (kindAllows (requestOf r)) (f .0) in
+    let m₂ = both (leb recordSize (length r) && eqb (fieldOf recordFields markField r) recordMark) (takesVersion v (versionIn r)) (h .0) in
+    let m₁ = both (leb recordSize (length r)) (eqb (fieldOf recordFields markField r) recordMark) (m₂ .0) in
+    let l₁ = both (leb (itemCount r) mostItems) (eqb (length r) (recordSize + itemSize * itemCount r)) (h .1 .0) in
     record {
       long = leb-true recordSize (length r) (m₁ .0);
-      mark = eqb-true (field recordFields 0 r) recordMark (m₁ .1);
+      mark = eqb-true (fieldOf recordFields markField r) recordMark (m₁ .1);
       version = m₂ .1;
       few = leb-true (itemCount r) mostItems (l₁ .0);
       size = eqb-true (length r) (recordSize + itemSize * itemCount r) (l₁ .1);
-      zero = eqb-true (zeroByte r) 0 (unless-accepted (eqb (zeroByte r) 0) RecordFields (z .0));
-      request = z .1;
+      zero = eqb-true (zeroByte r) 0 (z .0);
+      request =
+          accepted-request (longestAsked r) (requestOf r) (itemsOf r)
+          (record {
+            kind = z .1;
+            area = f .1;
+            limits = h .1 .1 .1 .0;
+            some = not-true (cancelsNothing (requestOf r)) (h .1 .1 .1 .1 .0);
+          });
     }
 
 pub accepted-record : (v : Version) (r : List ℕ) → AcceptedRecord v r → recordVerdict v r ≡ Accepted
-unfolding recordVerdict recordMarked
+unfolding recordVerdict requestVerdict recordMarked
 accepted-record v r a =
     rw (le-leb recordSize (length r) (a .long), eq-eqb _ _ (a .mark), a .version, le-leb _ _ (a .few), eq-eqb _ _ (a .size), eq-eqb _ _ (a .zero)) (a .request)
 
 -- so no record asks for more than its unit allows
-asked : (v : Version) (n : ℕ) → takes v n ≡ true → cond (eqb n 1) (longestPeriod version1) (longestPeriod version2) ≤ longestPeriod v
+asked : (v : Version) (n : ℕ) → takesVersion v n ≡ true → cond (eqb n 1) (longestPeriod version1) (longestPeriod version2) .0 ≤ longestPeriod v .0
 asked version1 n e = rw e (omega arith)
-asked version2 n e = cond-either (λ x. x ≤ longestPeriod version2) (eqb n 1) _ _ (λ _. omega arith) (λ _. omega arith)
+asked version2 n e = cond-either (λ (x : Seconds). x .0 ≤ longestPeriod version2 .0) (eqb n 1) _ _ (λ _. omega arith) (λ _. omega arith)
 
 pub within-own : (v : Version) (r : List ℕ) → AcceptedRecord v r → requestVerdict (longestPeriod v) (requestOf r) (itemsOf r) ≡ Accepted
 within-own v r a = allowed-longer _ _ (requestOf r) (itemsOf r) (asked v (versionIn r) (a .version)) (a .request)
@@ -80,15 +89,13 @@ unfolding fitRequest fits requestNumbers
 fit-count q n h e = rw (lt-ltb n 65536 h) e
 
 item-end : (area : ℕ) → itemEnd area ≤ 2 ^ 60
-item-end area =
-    cond-either (λ x. x ≤ 2 ^ 60) (eqb area cellArea) _ _ (λ _. omega arith) λ _.
-    cond-either (λ x. x ≤ 2 ^ 60) (eqb area trackingArea) _ _ (λ _. omega arith) λ _. omega arith
+item-end area = area-by (λ a. itemEndIn a ≤ 2 ^ 60) area (λ _. omega arith) (λ _. omega arith) (λ _. omega arith) (λ _. omega arith) (omega arith)
 
 -- an item within its area's limit fits its 8 bytes
-items-fit : (longest : ℕ) (q : Request) (items : List ℕ) → withinLimits longest q items ≡ true → All (λ x. x < 256 ^ itemSize) items
+items-fit : (longest : Seconds) (q : Request) (items : List ℕ) → withinLimits longest q items ≡ true → All (λ x. x < 256 ^ itemSize) items
 unfolding withinLimits
 items-fit longest q items e =
-    let start : Bool = not (eqb (q .kind) writeReplace) || leb (q .period .0) longest && leb firstSib (q .sib) && leb (q .sib) lastSib in
+    let start : Bool = not (eqb (q .kind) writeReplace) || leb (q .period .0) (longest .0) && leb firstSib (q .sib) && leb (q .sib) lastSib in
     let h = both start (every (λ x. ltb x (itemEnd (q .area))) items) e in
     all-imply (λ x t. omega (arith, ltb-true x (itemEnd (q .area)) t, item-end (q .area))) (all-every (λ x. ltb x (itemEnd (q .area))) items (h .1))
 
@@ -98,9 +105,8 @@ pub record AcceptedWriting (q : Request) (items : List ℕ) (room : ℕ) : Type 
   pub fits-in : recordSize + itemSize * length items ≤ room
 
 pub writing-accepted : (q : Request) (items : List ℕ) (room : ℕ) → writeVerdict q items room ≡ Accepted → AcceptedWriting q items room
-unfolding writeVerdict
 writing-accepted q items room e =
-    let n = then-accepted (refuseUnless (leb (length items) mostItems) RecordLength) _ e in
+    let n = then-accepted (refuseUnless (fewItems (length items)) RecordLength) _ (sym (write-chain q items room) ∙ e) in
     let v = then-accepted (requestVerdict (longestPeriod current) q items) _ (n .1) in
     record {
       few = leb-true (length items) mostItems (unless-accepted _ RecordLength (n .0));
@@ -109,9 +115,8 @@ writing-accepted q items room e =
     }
 
 pub accepted-writing : (q : Request) (items : List ℕ) (room : ℕ) → AcceptedWriting q items room → writeVerdict q items room ≡ Accepted
-unfolding writeVerdict
 accepted-writing q items room a =
-    rw (le-leb _ _ (a .few), a .request, le-leb (recordSize + itemSize * length items) room (a .fits-in))
+    rw (write-chain q items room, le-leb _ _ (a .few), a .request, le-leb (recordSize + itemSize * length items) room (a .fits-in))
 
 -- ---- written, then read
 
@@ -125,7 +130,7 @@ module _ (q : Request) (items : List ℕ) (fit : fitRequest q ≡ true) (few : l
       rw (length-append, length-bytesOf recordFields (requestNumbers q (length items)) fit-head, record-size, length-flatMap itemSize (toBe itemSize) items (length-toBe itemSize))
 
   -- a field of the record, with nothing behind it
-  own-field : (k : ℕ) → field recordFields k (recordBytes q items) ≡ getD (requestNumbers q (length items)) k 0
+  own-field : (k : ℕ) → fieldOf recordFields k (recordBytes q items) ≡ getD (requestNumbers q (length items)) k 0
   own-field k = rw append-nil at (field-again q items [] fit-head k)
 
   own-request : requestOf (recordBytes q items) ≡ q

@@ -11,7 +11,7 @@ use Rattle.octets.specs.Numbers.{be, toBe}
 use Rattle.octets.specs.Fields.{numbers}
 use Rattle.octets.proofs.RunsLaws.{bytes-take, bytes-drop, bytes-append}
 use Rattle.octets.proofs.NumbersLaws.{length-toBe, be-toBe, toBe-be, bytes-toBe}
-use Rattle.rules.specs.Layout.{field, recordFields, recordSize, itemSize, recordMark, recordVersion}
+use Rattle.rules.specs.Layout.{fieldOf, markField, recordFields, recordSize, itemSize, recordMark, recordVersion}
 use Rattle.rules.specs.Record.{versionIn, requestOf, recordBytes, itemsOf, itemCount, zeroByte, renewed}
 use Rattle.rules.proofs.RecordCodec.{record-back}
 
@@ -45,23 +45,23 @@ module _ (r : List ℕ) (long : recordSize ≤ length r) where
   numbers-own = lead r ∙ rw (drop-drop 2 3 r)
 
   pub request-renewed : requestOf (renewed r) ≡ requestOf r
-  unfolding requestOf field
+  unfolding requestOf fieldOf
   request-renewed = rw (numbers-renewed, numbers-own)
 
-  pub mark-renewed : field recordFields 0 (renewed r) ≡ field recordFields 0 r
-  unfolding field
+  pub mark-renewed : fieldOf recordFields markField (renewed r) ≡ fieldOf recordFields markField r
+  unfolding fieldOf
   mark-renewed = rw (numbers-renewed, numbers-own)
 
   pub version-renewed : versionIn (renewed r) ≡ recordVersion
-  unfolding field
+  unfolding fieldOf
   version-renewed = rw numbers-renewed
 
   pub zero-renewed : zeroByte (renewed r) ≡ zeroByte r
-  unfolding field
+  unfolding fieldOf
   zero-renewed = rw (numbers-renewed, numbers-own)
 
   pub count-renewed : itemCount (renewed r) ≡ itemCount r
-  unfolding field
+  unfolding fieldOf
   count-renewed = rw (numbers-renewed, numbers-own)
 
   pub items-renewed : itemsOf (renewed r) ≡ itemsOf r
@@ -81,7 +81,7 @@ module _ (r : List ℕ) (long : recordSize ≤ length r) where
 
   -- of the writer's own version
   pub renewed-same : Bytes r → versionIn r ≡ recordVersion → renewed r ≡ r
-  unfolding renewed field
+  unfolding renewed fieldOf
   renewed-same b e =
       let two : length (take 2 (drop 3 r)) ≡ 2 = length-take-le 2 (drop 3 r) (rw length-drop (omega arith)) in
       let says : be (take 2 (drop 3 r)) ≡ recordVersion = rw numbers-own at e in
@@ -89,7 +89,7 @@ module _ (r : List ℕ) (long : recordSize ≤ length r) where
       rw (own, ← drop-drop 2 3 r, take-append-drop 2 (drop 3 r)) (take-append-drop 3 r)
 
   -- read, then written
-  pub record-renewed : Bytes r → field recordFields 0 r ≡ recordMark → zeroByte r ≡ 0 → length r ≡ recordSize + itemSize * itemCount r
+  pub record-renewed : Bytes r → fieldOf recordFields markField r ≡ recordMark → zeroByte r ≡ 0 → length r ≡ recordSize + itemSize * itemCount r
       → recordBytes (requestOf r) (itemsOf r) ≡ renewed r
   record-renewed b m z n =
       rw (request-renewed, items-renewed) at (record-back (renewed r) (mark-renewed ∙ m) version-renewed (zero-renewed ∙ z) (bytes-renewed b) (rw (length-renewed, count-renewed) n))

@@ -3,7 +3,7 @@
 use mathlib.Core.Path.{_≡_, ap, _∙_}
 use mathlib.Core.Bool.{true, false}
 use mathlib.Core.List.{List}
-use Prim.Native.Nat.{ℕ, _+_, _-_, _≤_, _<_}
+use Prim.Native.Nat.{_+_, _-_, _≤_, _<_}
 use native.Mathlib.Omega.{arith}
 use lib.Dec.{ltb}
 use lib.ListN.{length}
@@ -11,7 +11,9 @@ use borrow.Author.Tests.{ltb-true, eqb-false, not-true, ne-eqb}
 use Rattle.rules.specs.Lists.{larger}
 use Rattle.rules.specs.Layout.{Version, mostSent}
 use Rattle.rules.specs.Sound.{soundPlace, soundPlaces}
-use Rattle.rules.specs.InCell.{isDue, oneMore, withCounts, later, hasEnded, staysLive, second}
+use Rattle.rules.specs.InCell.{isDue, oneMore, oneLess, withCounts, later, hasEnded, staysLive, second}
+use Rattle.rules.specs.declared.Seconds.{Seconds}
+use Rattle.rules.specs.declared.Broadcasts.{Broadcasts}
 use Rattle.rules.specs.declared.Place.{Place}
 use Rattle.rules.proofs.ListsLaws.{cond-either, by-test, larger-left, larger-right, every-cond, few-flatMap, few-cond}
 use Rattle.rules.proofs.PlaceLaws.{keeps-cond}
@@ -19,20 +21,21 @@ use Rattle.rules.proofs.SoundPlaceLaws.{sound-facts, facts-sound, keeps
 
 -- ---- one place
 
-pub oneMore-most : (n : ℕ) → n ≤ mostSent → oneMore n ≤ mostSent
+pub oneMore-most : (n : Broadcasts) → n .0 ≤ mostSent → oneMore n .0 ≤ mostSent
 unfolding oneMore
-oneMore-most n h = cond-either (λ k. k ≤ mostSent) (ltb n mostSent) _ _ (λ e. omega (arith, ltb-true n mostSent e)) (λ e. h)
+oneMore-most n h =
+    cond-either (λ (k : Broadcasts). k .0 ≤ mostSent) (ltb (n .0) mostSent) _ _ (λ e. omega (arith, ltb-true (n .0) mostSent e)) (λ e. h)
 
-pub oneMore-next : (n : ℕ) → oneMore n ≤ n + 1
+pub oneMore-next : (n : Broadcasts) → oneMore n .0 ≤ n .0 + 1
 unfolding oneMore
-oneMore-next n = cond-either (λ k. k ≤ n + 1) (ltb n mostSent) _ _ (λ e. omega arith) (λ e. omega arith)
+oneMore-next n = cond-either (λ (k : Broadcasts). k .0 ≤ n .0 + 1) (ltb (n .0) mostSent) _ _ (λ e. omega arith) (λ e. omega arith)
 
 -- a place that was due, and one that waits on
 abbrev pub broadcast : Place → Place
-broadcast p = withCounts p (oneMore (p .sent .0)) (p .period .0 - 1)
+broadcast p = withCounts p (oneMore (p .sent)) (oneLess (p .period))
 
 abbrev pub waited : Place → Place
-waited p = withCounts p (p .sent .0) (p .wait .0 - 1)
+waited p = withCounts p (p .sent) (oneLess (p .wait))
 
 pub later-due : (p : Place) → isDue p ≡ true → later p ≡ broadcast p
 unfolding later
@@ -43,7 +46,7 @@ unfolding later
 later-waits p e = rw e
 
 -- a second changes nothing but counts
-pub later-with : (p : Place) → later p ≡ withCounts p (later p .sent .0) (later p .wait .0)
+pub later-with : (p : Place) → later p ≡ withCounts p (later p .sent) (later p .wait)
 unfolding later withCounts
 later-with p = by-test (isDue p) (λ e. rw e) (λ e. rw e)
 
@@ -69,11 +72,11 @@ saturated p s w = rw (w, s)
 pub later-most : (p : Place) → p .sent .0 ≤ mostSent → later p .sent .0 ≤ mostSent
 unfolding withCounts
 later-most p h =
-    by-test (isDue p) (λ d. rw (later-due p d) (oneMore-most (p .sent .0) h)) (λ d. rw (later-waits p d) h)
+    by-test (isDue p) (λ d. rw (later-due p d) (oneMore-most (p .sent) h)) (λ d. rw (later-waits p d) h)
 
 -- ---- one sound place
 
-with-sound : (v : Version) → (p : Place) → soundPlace v p ≡ true → (sent wait : ℕ) → sent ≤ mostSent → wait < larger (p .period .0) 1 → ((p .requested .0 ≡ 0 → ⊥) → sent < p .requested .0)
+with-sound : (v : Version) → (p : Place) → soundPlace v p ≡ true → (sent : Broadcasts) (wait : Seconds) → sent .0 ≤ mostSent → wait .0 < larger (p .period .0) 1 → ((p .requested .0 ≡ 0 → ⊥) → sent .0 < p .requested .0)
     → soundPlace v (withCounts p sent wait) ≡ true
 unfolding withCounts
 with-sound v p e sent wait a b c =
@@ -102,8 +105,8 @@ module _ (v : Version) where
       by-test (isDue p)
       (λ d.
       let on : hasEnded (broadcast p) ≡ false = not-true (hasEnded (broadcast p)) (rw (d, later-due p d) at l) in
-      let below : (p .requested .0 ≡ 0 → ⊥) → oneMore (p .sent .0) < p .requested .0 = λ n. omega (arith, s .legal .sent n, oneMore-next (p .sent .0), not-ended (broadcast p) on n) in
-      rw (later-due p d) (with-sound v p e _ _ (oneMore-most (p .sent .0) (omega arith)) (omega arith) below))
+      let below : (p .requested .0 ≡ 0 → ⊥) → oneMore (p .sent) .0 < p .requested .0 = λ n. omega (arith, s .legal .sent n, oneMore-next (p .sent), not-ended (broadcast p) on n) in
+      rw (later-due p d) (with-sound v p e _ _ (oneMore-most (p .sent) (omega arith)) (omega arith) below))
       (λ d. rw (later-waits p d) (with-sound v p e _ _ (omega arith) (omega arith) (s .legal .sent)))
 
   -- ---- the cell

@@ -58,7 +58,7 @@ module _ (v : Version) where
   facts-sound p s =
       let l = s .legal in
       let long = longest-fits v in
-      let w : p .wait .0 < 256 ^ secondsSize v = omega (arith, long, l .wait, larger-most (p .period .0) 1 (longestPeriod v) (l .period) (longest-some v)) in
+      let w : p .wait .0 < 256 ^ secondsSize v = omega (arith, long, l .wait, larger-most (p .period .0) 1 (longestPeriod v .0) (l .period) (longest-some v)) in
       rw (
         lt-ltb (p .identifier) (256 ^ 2) (s .identifier),
         lt-ltb (p .serial) (256 ^ 2) (s .serial),

@@ -28,7 +28,7 @@ module _ (v : Version) where
   -- ---- the new place
 
   record WriteLimits (q : Request) : Type 0 where
-    pub period : q .period .0 ≤ longestPeriod v
+    pub period : q .period .0 ≤ longestPeriod v .0
     pub sib : (firstSib ≤ q .sib) × (q .sib ≤ lastSib)
 
   write-limits : (q : Request) (items : List ℕ) → withinLimits (longestPeriod v) q items ≡ true → q .kind ≡ writeReplace → WriteLimits q
@@ -37,15 +37,15 @@ module _ (v : Version) where
       let limits = both _ (every (λ x. ltb x (itemEnd (q .area))) items) e .0 in
       let a = or-else (not (eqb (q .kind) writeReplace)) _ limits (ap not (eq-eqb (q .kind) writeReplace k)) in
       let b = both _ (leb (q .sib) lastSib) a in
-      let c = both (leb (q .period .0) (longestPeriod v)) (leb firstSib (q .sib)) (b .0) in
+      let c = both (leb (q .period .0) (longestPeriod v .0)) (leb firstSib (q .sib)) (b .0) in
       record {
-        period = leb-true (q .period .0) (longestPeriod v) (c .0);
+        period = leb-true (q .period .0) (longestPeriod v .0) (c .0);
         sib = (leb-true firstSib (q .sib) (c .1), leb-true (q .sib) lastSib (b .1));
       }
 
-  new-short : (q : Request) → q .period .0 ≤ longestPeriod v → newPlace q .period .0 ≤ longestPeriod v
+  new-short : (q : Request) → q .period .0 ≤ longestPeriod v .0 → newPlace q .period .0 ≤ longestPeriod v .0
   unfolding newPlace
-  new-short q l = cond-either (λ (s : Seconds). s .0 ≤ longestPeriod v) (isPrimary q) _ _ (λ e. longest-some v) (λ e. l)
+  new-short q l = cond-either (λ (s : Seconds). s .0 ≤ longestPeriod v .0) (isPrimary q) _ _ (λ e. longest-some v) (λ e. l)
 
 -- period 0 comes only with requested 1: a primary has period 1, and of others the zero rules say so
 once-or-primary : (b : Bool) (q : Request) → not b && zeroRulesStop q ≡ false → cond b (record { 0 = 1 }) (q .period) .0 ≡ 0

@@ -14,18 +14,17 @@ use Rattle.octets.specs.Fields.{size, numbers, Fit}
 use Rattle.octets.proofs.RunsLaws.{length-pieces, pieces-flat, pieces-flatMap, length-flatMap, bytes-drop, bytes-append}
 use Rattle.octets.proofs.FieldsLaws.{numbers-bytesOf, bytesOf-numbers, bytes-bytesOf}
 use Rattle.rules.specs.Lists.{every, ascending}
-use Rattle.rules.specs.Layout.{Version, field, headerFields, headerSize, headSize, cellSize, placesPerCell, tableMark, versionNumber, mostCells}
+use Rattle.rules.specs.Layout.{Version, fieldOf, markField, versionField, placesInHeader, zeroInHeader, headerFields, headerSize, headSize, cellSize, placesPerCell, tableMark, versionNumber, mostCells}
 use Rattle.rules.specs.Table.{Cell, headOf, legalHead, cellOf, cellBytes, legalCell, cellCount, cellRuns, cellsOf, headerBytes, tableBytes, identityAt, tableMarked, legalTable, different}
 use Rattle.rules.specs.Sound.{fits, soundPlaces, soundCell, identityOfCell, soundCells}
-use Rattle.rules.specs.Refusals.{refuseUnless, tableVerdict, headCount, headRuns, legalHeads}
+use Rattle.rules.specs.Refusals.{tableTests, tableVerdict, headCount, headRuns, legalHeads}
 use Rattle.rules.specs.Applied.{emptyCell}
-use Rattle.rules.specs.declared.Refusal.the-variants.{TableMark, TableWrong}
 use Rattle.rules.specs.declared.Verdict.the-variants.{Accepted}
 use Rattle.rules.proofs.ListsLaws.{both, flatMap-map}
 use Rattle.rules.proofs.AllLaws.{All, all-every, every-all, all-imply, all-both, all-map, map-all, flatMap-all, all-pieces, bytes-flatMap-all}
 use Rattle.rules.proofs.FitLaws.{fits-Fit, length-written}
 use Rattle.rules.proofs.LayoutLaws.{number-fits}
-use Rattle.rules.proofs.VerdictLaws.{then-accepted, unless-accepted}
+use Rattle.rules.proofs.VerdictLaws.{all-held}
 use Rattle.rules.proofs.HeadCodec.{head-sound}
 use Rattle.rules.proofs.CellCodec.{cell-back, cell-sound, length-cellBytes, cell-again, cell-legal, bytes-cellBytes}
 
@@ -33,12 +32,12 @@ module _ (v : Version) where
   -- ---- the tests, part by part
 
   pub record LegalTable (t : List ℕ) : Type 0 where
-    pub mark : field headerFields 0 t ≡ tableMark
-    pub version : field headerFields 1 t ≡ versionNumber v
+    pub mark : fieldOf headerFields markField t ≡ tableMark
+    pub version : fieldOf headerFields versionField t ≡ versionNumber v
     pub some : 1 ≤ cellCount t
     pub few : cellCount t ≤ mostCells
-    pub four : field headerFields 3 t ≡ placesPerCell
-    pub spare : field headerFields 4 t ≡ 0
+    pub four : fieldOf headerFields placesInHeader t ≡ placesPerCell
+    pub spare : fieldOf headerFields zeroInHeader t ≡ 0
     pub size : length t ≡ headerSize + cellSize v * cellCount t
     pub cells : every (legalCell v) (cellRuns v t) ≡ true
     pub order : ascending (map identityAt (cellRuns v t)) ≡ true
@@ -46,22 +45,22 @@ module _ (v : Version) where
   pub table-accepted : (t : List ℕ) → tableVerdict v t ≡ Accepted → LegalTable t
   unfolding tableVerdict tableMarked legalTable
   table-accepted t e =
-      let h = then-accepted (refuseUnless (tableMarked (versionNumber v) t) TableMark) (refuseUnless (legalTable v t) TableWrong) e in
-      let m = both _ _ (unless-accepted (tableMarked (versionNumber v) t) TableMark (h .0)) in
+      let h = all-held (tableTests v t) e in
+      let m = both _ _ (h .0) in
       let w = both (leb 5 (length t)) _ (m .0) in
-      let a = both _ _ (unless-accepted (legalTable v t) TableWrong (h .1)) in
+      let a = both _ _ (h .1 .0) in
       let b = both _ _ (a .0) in
       let c = both _ _ (b .0) in
       let d = both _ _ (c .0) in
       let f = both _ _ (d .0) in
       let n = both _ _ (f .0) in
       record {
-        mark = eqb-true (field headerFields 0 t) tableMark (w .1);
-        version = eqb-true (field headerFields 1 t) (versionNumber v) (m .1);
+        mark = eqb-true (fieldOf headerFields markField t) tableMark (w .1);
+        version = eqb-true (fieldOf headerFields versionField t) (versionNumber v) (m .1);
         some = leb-true 1 (cellCount t) (n .0);
         few = leb-true (cellCount t) mostCells (n .1);
-        four = eqb-true (field headerFields 3 t) placesPerCell (f .1);
-        spare = eqb-true (field headerFields 4 t) 0 (d .1);
+        four = eqb-true (fieldOf headerFields placesInHeader t) placesPerCell (f .1);
+        spare = eqb-true (fieldOf headerFields zeroInHeader t) 0 (d .1);
         size = eqb-true (length t) (headerSize + cellSize v * cellCount t) (c .1);
         cells = b .1;
         order = a .1;
@@ -71,7 +70,7 @@ module _ (v : Version) where
   unfolding tableVerdict tableMarked legalTable
   accepted-table t l =
       let s = l .size in
-      rw (le-leb 5 (length t) (omega arith), eq-eqb (field headerFields 0 t) tableMark (l .mark), eq-eqb (field headerFields 1 t) (versionNumber v) (l .version), le-leb 1 (cellCount t) (l .some), le-leb (cellCount t) mostCells (l .few), eq-eqb (field headerFields 3 t) placesPerCell (l .four), eq-eqb (field headerFields 4 t) 0 (l .spare), eq-eqb (length t) (headerSize + cellSize v * cellCount t) (l .size), l .cells, l .order)
+      rw (le-leb 5 (length t) (omega arith), eq-eqb (fieldOf headerFields markField t) tableMark (l .mark), eq-eqb (fieldOf headerFields versionField t) (versionNumber v) (l .version), le-leb 1 (cellCount t) (l .some), le-leb (cellCount t) mostCells (l .few), eq-eqb (fieldOf headerFields placesInHeader t) placesPerCell (l .four), eq-eqb (fieldOf headerFields zeroInHeader t) 0 (l .spare), eq-eqb (length t) (headerSize + cellSize v * cellCount t) (l .size), l .cells, l .order)
 
   pub record SoundCells (cells : List Cell) : Type 0 where
     pub some : 1 ≤ length cells
@@ -117,7 +116,7 @@ module _ (v : Version) where
         (all-both (all-pieces (cellSize v) (cellCount t) (drop headerSize t) (bytes-drop headerSize t bytes) (omega (arith, behind))) (all-every (legalCell v) (cellRuns v t) (table-accepted t accepted .cells)))
 
     same-header : headerNumbers (cellCount t) ≡ numbers headerFields t
-    unfolding field numbers
+    unfolding fieldOf numbers
     same-header = let l = table-accepted t accepted in rw (l .mark, l .version, l .four, l .spare)
 
     header-back : headerBytes v (cellCount t) ≡ take headerSize t
@@ -169,7 +168,7 @@ module _ (v : Version) where
     header-again = numbers-bytesOf headerFields (headerNumbers (length cells)) (flatMap (cellBytes v) cells) (fit-header (length cells) (sound-cells cells sound .few))
 
     pub count-tableBytes : cellCount (tableBytes v cells) ≡ length cells
-    unfolding field
+    unfolding fieldOf
     count-tableBytes = rw header-again
 
     pub runs-of-tableBytes : cellRuns v (tableBytes v cells) ≡ map (cellBytes v) cells
@@ -186,7 +185,7 @@ module _ (v : Version) where
         rw (runs-of-tableBytes, map-map (cellOf v) (cellBytes v) cells, map-all (λ c. cellOf v (cellBytes v c)) (λ c. c) again-each) (map-id cells)
 
     pub table-legal : tableVerdict v (tableBytes v cells) ≡ Accepted
-    unfolding field cellOf
+    unfolding fieldOf cellOf
     table-legal =
         let s = sound-cells cells sound in
         let n = count-tableBytes in

@@ -27,15 +27,15 @@ abbrev pub head : ℕ → ℕ → List ℕ
 head x code = identity x ++ (0 ∷ 0 ∷ code ∷ 0 ∷ replicate 12 0)
 
 -- a live place of serial number 16, with its SIB kind
-abbrev pub textOf : ℕ → ℕ → ℕ → ℕ → ℕ → ℕ → ℕ → List ℕ
-textOf sib identifier content period requested sent wait =
+abbrev pub textOfSib : ℕ → ℕ → ℕ → ℕ → ℕ → ℕ → ℕ → List ℕ
+textOfSib sib identifier content period requested sent wait =
     word identifier
     ++ (0 ∷ 16 ∷ long content)
     ++ (long period ++ word requested ++ word sent ++ long wait)
     ++ (sib ∷ 1 ∷ 0 ∷ 0 ∷ [])
 
 abbrev pub text : ℕ → ℕ → ℕ → ℕ → ℕ → ℕ → List ℕ
-text = textOf 8
+text = textOfSib 8
 
 abbrev pub free : ℕ → List ℕ
 free n = replicate (24 * n) 0
@@ -87,9 +87,9 @@ abbrev pub blank : List ℕ
 blank = replicate 124 9
 
 -- the outcomes of requests, each on the table that the one before left
-abbrev pub run : List ℕ → List (List ℕ) → List Outcome
-run t [] = []
-run t (r ∷ rs) = applied current t r blank ∷ run (applied current t r blank .table) rs
+abbrev pub outcomesOf : List ℕ → List (List ℕ) → List Outcome
+outcomesOf t [] = []
+outcomesOf t (r ∷ rs) = applied current t r blank ∷ outcomesOf (applied current t r blank .table) rs
 
 -- refused with a number: nothing is written
 abbrev pub refuses : ℕ → List ℕ → Outcome

@@ -8,8 +8,10 @@ use lib.ListN.{length}
 use Rattle.rules.specs.Lists.{those}
 use Rattle.rules.specs.Layout.{placesPerCell, mostSent}
 use Rattle.rules.specs.Table.{isText, running}
-use Rattle.rules.specs.Record.{writeReplace, cancelOrKill, restartKind, failureKind, concurrent, cancelAll, isPrimary}
+use Rattle.rules.specs.Record.{Kind, aWriteReplace, aCancel, aRestart, aFailure, aSecond, unknownKind, kindOf, concurrent, cancelAll, isPrimary}
 use Rattle.rules.specs.ZeroRules.{zeroRulesStop}
+use Rattle.rules.specs.declared.Seconds.{Seconds}
+use Rattle.rules.specs.declared.Broadcasts.{Broadcasts}
 use Rattle.rules.specs.declared.Place.{Place}
 use Rattle.rules.specs.declared.Request.{Request}
 
@@ -84,10 +86,14 @@ unfoldable pub isDue : Place → Bool
 isDue p = eqb (p .wait .0) 0
 
 -- one more, but it stays at 65,535
-unfoldable pub oneMore : ℕ → ℕ
-oneMore n = cond (ltb n mostSent) (n + 1) n
+unfoldable pub oneMore : Broadcasts → Broadcasts
+oneMore n = cond (ltb (n .0) mostSent) (record { 0 = n .0 + 1 }) n
 
-unfoldable pub withCounts : Place → ℕ → ℕ → Place
+-- one second nearer, and 0 stays 0
+abbrev pub oneLess : Seconds → Seconds
+oneLess n = record { 0 = n .0 - 1 }
+
+unfoldable pub withCounts : Place → Broadcasts → Seconds → Place
 withCounts p sent wait =
     record {
       identifier = p .identifier;
@@ -95,15 +101,15 @@ withCounts p sent wait =
       content = p .content;
       period = p .period;
       requested = p .requested;
-      sent = record { 0 = sent };
-      wait = record { 0 = wait };
+      sent = sent;
+      wait = wait;
       sib = p .sib;
     }
 
 -- a place after the second: broadcast once more and waiting anew, or one second nearer
 unfoldable pub later : Place → Place
 later p =
-    cond (isDue p) (withCounts p (oneMore (p .sent .0)) (p .period .0 - 1)) (withCounts p (p .sent .0) (p .wait .0 - 1))
+    cond (isDue p) (withCounts p (oneMore (p .sent)) (oneLess (p .period))) (withCounts p (p .sent) (oneLess (p .wait)))
 
 -- "if requested is not 0 and sent equals it"
 unfoldable pub hasEnded : Place → Bool
@@ -120,8 +126,13 @@ second ps =
 
 -- ---- all kinds
 
+abbrev pub ruleOf : Kind → Request → List Place → Done
+ruleOf aWriteReplace q ps = start q ps
+ruleOf aCancel q ps = cancel q ps
+ruleOf aRestart q ps = restart ps
+ruleOf aFailure q ps = failure ps
+ruleOf aSecond q ps = second ps
+ruleOf unknownKind q ps = done ps []
+
 unfoldable pub inCell : Request → List Place → Done
-inCell q ps =
-    cond (eqb (q .kind) writeReplace) (start q ps)
-    (cond (eqb (q .kind) cancelOrKill) (cancel q ps)
-    (cond (eqb (q .kind) restartKind) (restart ps) (cond (eqb (q .kind) failureKind) (failure ps) (second ps))))
+inCell q ps = ruleOf (kindOf (q .kind)) q ps

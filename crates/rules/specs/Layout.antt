@@ -3,10 +3,18 @@ use mathlib.Core.List.{List, [], _∷_}
 use Prim.Native.Nat.{ℕ, _+_, _*_, _^_}
 use lib.ListN.{getD}
 use Rattle.octets.specs.Fields.{numbers}
+use Rattle.rules.specs.declared.Seconds.{Seconds}
 
--- the number in field k
-unfoldable pub field : List ℕ → ℕ → List ℕ → ℕ
-field ws k l = getD (numbers ws l) k 0
+-- the number in the field at a place of its layout; beside each layout its fields have names in their order, counted from 0
+unfoldable pub fieldOf : List ℕ → ℕ → List ℕ → ℕ
+fieldOf ws k l = getD (numbers ws l) k 0
+
+-- a table, a record and an answer begin with their mark and version
+abbrev pub markField : ℕ
+markField = 0
+
+abbrev pub versionField : ℕ
+versionField = 1
 
 -- ---- the table
 
@@ -14,9 +22,30 @@ field ws k l = getD (numbers ws l) k 0
 abbrev pub headerFields : List ℕ
 headerFields = 3 ∷ 2 ∷ 2 ∷ 1 ∷ 8 ∷ []
 
+abbrev pub cellsInHeader : ℕ
+cellsInHeader = 2
+
+abbrev pub placesInHeader : ℕ
+placesInHeader = 3
+
+abbrev pub zeroInHeader : ℕ
+zeroInHeader = 4
+
 -- NR CGI; tracking area code; number of emergency areas; four emergency area identifiers
 abbrev pub headFields : List ℕ
 headFields = 8 ∷ 3 ∷ 1 ∷ 3 ∷ 3 ∷ 3 ∷ 3 ∷ []
+
+abbrev pub identityInHead : ℕ
+identityInHead = 0
+
+abbrev pub codeInHead : ℕ
+codeInHead = 1
+
+abbrev pub areasUsedInHead : ℕ
+areasUsedInHead = 2
+
+abbrev pub areasInHead : ℕ
+areasInHead = 3
 
 -- document 02, 3/13: two versions. Beside their number they differ in the bytes of a period and of a wait and in the longest period
 pub data Version : Type 0 where
@@ -37,13 +66,43 @@ abbrev pub secondsSize : Version → ℕ
 secondsSize version1 = 2
 secondsSize version2 = 4
 
-abbrev pub longestPeriod : Version → ℕ
-longestPeriod version1 = 4095
-longestPeriod version2 = 131071
+abbrev pub longestPeriod : Version → Seconds
+longestPeriod version1 = record { 0 = 4095 }
+longestPeriod version2 = record { 0 = 131071 }
 
 -- message identifier; serial number; content; period; requested; sent; wait; SIB kind; live; zero
 abbrev pub placeFields : Version → List ℕ
 placeFields v = 2 ∷ 2 ∷ 4 ∷ secondsSize v ∷ 2 ∷ 2 ∷ secondsSize v ∷ 1 ∷ 1 ∷ 2 ∷ []
+
+abbrev pub identifierInPlace : ℕ
+identifierInPlace = 0
+
+abbrev pub serialInPlace : ℕ
+serialInPlace = 1
+
+abbrev pub contentInPlace : ℕ
+contentInPlace = 2
+
+abbrev pub periodInPlace : ℕ
+periodInPlace = 3
+
+abbrev pub requestedInPlace : ℕ
+requestedInPlace = 4
+
+abbrev pub sentInPlace : ℕ
+sentInPlace = 5
+
+abbrev pub waitInPlace : ℕ
+waitInPlace = 6
+
+abbrev pub sibInPlace : ℕ
+sibInPlace = 7
+
+abbrev pub liveInPlace : ℕ
+liveInPlace = 8
+
+abbrev pub zeroInPlace : ℕ
+zeroInPlace = 9
 
 abbrev pub placesPerCell : ℕ
 placesPerCell = 4
@@ -91,6 +150,39 @@ primarySib = 6
 abbrev pub recordFields : List ℕ
 recordFields = 3 ∷ 2 ∷ 1 ∷ 1 ∷ 1 ∷ 2 ∷ 2 ∷ 4 ∷ 4 ∷ 2 ∷ 1 ∷ 1 ∷ 2 ∷ []
 
+abbrev pub kindInRecord : ℕ
+kindInRecord = 2
+
+abbrev pub flagsInRecord : ℕ
+flagsInRecord = 3
+
+abbrev pub areaInRecord : ℕ
+areaInRecord = 4
+
+abbrev pub identifierInRecord : ℕ
+identifierInRecord = 5
+
+abbrev pub serialInRecord : ℕ
+serialInRecord = 6
+
+abbrev pub contentInRecord : ℕ
+contentInRecord = 7
+
+abbrev pub periodInRecord : ℕ
+periodInRecord = 8
+
+abbrev pub requestedInRecord : ℕ
+requestedInRecord = 9
+
+abbrev pub sibInRecord : ℕ
+sibInRecord = 10
+
+abbrev pub zeroInRecord : ℕ
+zeroInRecord = 11
+
+abbrev pub countInRecord : ℕ
+countInRecord = 12
+
 abbrev pub recordSize : ℕ
 recordSize = 26
 
@@ -124,9 +216,21 @@ emergencyEnd = 2 ^ 24
 abbrev pub answerFields : List ℕ
 answerFields = 3 ∷ 2 ∷ 1 ∷ 2 ∷ 2 ∷ 2 ∷ []
 
+abbrev pub kindInAnswer : ℕ
+kindInAnswer = 2
+
 -- NR CGI; count; content
 abbrev pub rowFields : List ℕ
 rowFields = 8 ∷ 2 ∷ 4 ∷ []
+
+abbrev pub identityInRow : ℕ
+identityInRow = 0
+
+abbrev pub countInRow : ℕ
+countInRow = 1
+
+abbrev pub contentInRow : ℕ
+contentInRow = 2
 
 abbrev pub answerSize : ℕ
 answerSize = 12

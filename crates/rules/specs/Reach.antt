@@ -1,18 +1,23 @@
 -- Document 01, "Which cells a request reaches".
-use mathlib.Core.Bool.{Bool, true, cond}
+use mathlib.Core.Bool.{Bool, true, false, cond}
 use mathlib.Core.List.{List}
 use Prim.Native.Nat.{ℕ}
 use lib.Dec.{eqb}
 use Rattle.rules.specs.Lists.{any, oneOf, upTo}
 use Rattle.rules.specs.Identity.{trackingItem}
 use Rattle.rules.specs.Table.{Head}
-use Rattle.rules.specs.Record.{noArea, cellArea, trackingArea}
+use Rattle.rules.specs.Record.{noArea, Area, everywhere, inCells, inTrackingAreas, inEmergencyAreas, unknownArea, areaOf}
 
--- whether an item names a cell: by its NR CGI; by its PLMN and code; by one of its emergency areas in use
+-- an item names a cell by its NR CGI; by its PLMN and code; by one of its emergency areas in use
+abbrev pub namesIn : Area → Head → ℕ → Bool
+namesIn everywhere h item = false
+namesIn inCells h item = eqb item (h .identity)
+namesIn inTrackingAreas h item = eqb item (trackingItem (h .identity) (h .code))
+namesIn inEmergencyAreas h item = oneOf item (h .areas)
+namesIn unknownArea h item = false
+
 unfoldable pub names : ℕ → Head → ℕ → Bool
-names area h item =
-    cond (eqb area cellArea) (eqb item (h .identity))
-    (cond (eqb area trackingArea) (eqb item (trackingItem (h .identity) (h .code))) (oneOf item (h .areas)))
+names area h item = namesIn (areaOf area) h item
 
 -- every cell without an area, else those that some item names
 unfoldable pub reaches : ℕ → List ℕ → Head → Bool

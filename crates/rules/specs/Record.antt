@@ -8,10 +8,11 @@ use Rattle.octets.specs.Runs.{pieces}
 use Rattle.octets.specs.Numbers.{be, toBe}
 use Rattle.octets.specs.Fields.{bytesOf}
 use Rattle.rules.specs.Lists.{every, zeros, oneOf}
-use Rattle.rules.specs.Layout.{Version, version1, version2, longestPeriod, field, recordFields, recordSize, itemSize, recordMark, recordVersion, firstSib, lastSib, primarySib, cellEnd, trackingEnd, emergencyEnd}
+use Rattle.rules.specs.Layout.{Version, version1, version2, longestPeriod, fieldOf, kindInRecord, flagsInRecord, areaInRecord, identifierInRecord, serialInRecord, contentInRecord, periodInRecord, requestedInRecord, sibInRecord, zeroInRecord, countInRecord, versionField, markField, recordFields, recordSize, itemSize, recordMark, recordVersion, firstSib, lastSib, primarySib, cellEnd, trackingEnd, emergencyEnd}
+use Rattle.rules.specs.declared.Seconds.{Seconds}
 use Rattle.rules.specs.declared.Request.{Request}
 
--- ---- kinds, areas, flags
+-- ---- kinds and areas: their numbers, and what a number names
 
 abbrev pub writeReplace : ℕ
 writeReplace = 1
@@ -28,6 +29,21 @@ failureKind = 4
 abbrev pub oneSecond : ℕ
 oneSecond = 5
 
+pub data Kind : Type 0 where
+  aWriteReplace : Kind
+  aCancel : Kind
+  aRestart : Kind
+  aFailure : Kind
+  aSecond : Kind
+  unknownKind : Kind
+
+abbrev pub kindOf : ℕ → Kind
+kindOf n =
+    cond (eqb n writeReplace) aWriteReplace
+    (cond (eqb n cancelOrKill) aCancel
+    (cond (eqb n restartKind) aRestart
+    (cond (eqb n failureKind) aFailure (cond (eqb n oneSecond) aSecond unknownKind))))
+
 abbrev pub noArea : ℕ
 noArea = 0
 
@@ -39,6 +55,21 @@ trackingArea = 2
 
 abbrev pub emergencyArea : ℕ
 emergencyArea = 3
+
+pub data Area : Type 0 where
+  everywhere : Area
+  inCells : Area
+  inTrackingAreas : Area
+  inEmergencyAreas : Area
+  unknownArea : Area
+
+abbrev pub areaOf : ℕ → Area
+areaOf n =
+    cond (eqb n noArea) everywhere
+    (cond (eqb n cellArea) inCells
+    (cond (eqb n trackingArea) inTrackingAreas (cond (eqb n emergencyArea) inEmergencyAreas unknownArea)))
+
+-- ---- flags
 
 -- flag 1
 abbrev pub concurrent : Request → Bool
@@ -61,22 +92,22 @@ isPrimary q = eqb (q .sib) primarySib
 unfoldable pub requestOf : List ℕ → Request
 requestOf r =
     record {
-      kind = field recordFields 2 r;
-      flags = field recordFields 3 r;
-      area = field recordFields 4 r;
-      identifier = field recordFields 5 r;
-      serial = field recordFields 6 r;
-      content = field recordFields 7 r;
-      period = record { 0 = field recordFields 8 r };
-      requested = record { 0 = field recordFields 9 r };
-      sib = field recordFields 10 r;
+      kind = fieldOf recordFields kindInRecord r;
+      flags = fieldOf recordFields flagsInRecord r;
+      area = fieldOf recordFields areaInRecord r;
+      identifier = fieldOf recordFields identifierInRecord r;
+      serial = fieldOf recordFields serialInRecord r;
+      content = fieldOf recordFields contentInRecord r;
+      period = record { 0 = fieldOf recordFields periodInRecord r };
+      requested = record { 0 = fieldOf recordFields requestedInRecord r };
+      sib = fieldOf recordFields sibInRecord r;
     }
 
 abbrev pub zeroByte : List ℕ → ℕ
-zeroByte r = field recordFields 11 r
+zeroByte r = fieldOf recordFields zeroInRecord r
 
 abbrev pub itemCount : List ℕ → ℕ
-itemCount r = field recordFields 12 r
+itemCount r = fieldOf recordFields countInRecord r
 
 unfoldable pub itemsOf : List ℕ → List ℕ
 itemsOf r = map be (pieces itemSize (itemCount r) (drop recordSize r))
@@ -103,23 +134,23 @@ recordBytes q items = bytesOf recordFields (requestNumbers q (length items)) ++ 
 
 -- the number of a record's version
 abbrev pub versionIn : List ℕ → ℕ
-versionIn r = field recordFields 1 r
+versionIn r = fieldOf recordFields versionField r
 
 -- records of a version are taken by it and by later ones
-abbrev pub takes : Version → ℕ → Bool
-takes version1 n = eqb n 1
-takes version2 n = eqb n 1 || eqb n 2
+abbrev pub takesVersion : Version → ℕ → Bool
+takesVersion version1 n = eqb n 1
+takesVersion version2 n = eqb n 1 || eqb n 2
 
 unfoldable pub recordMarked : Version → List ℕ → Bool
 recordMarked v r =
-    leb recordSize (length r) && eqb (field recordFields 0 r) recordMark && takes v (versionIn r)
+    leb recordSize (length r) && eqb (fieldOf recordFields markField r) recordMark && takesVersion v (versionIn r)
 
 -- the same record in the version that the writer writes
 unfoldable pub renewed : List ℕ → List ℕ
 renewed r = take 3 r ++ (toBe 2 recordVersion ++ drop 5 r)
 
 -- what a record may ask for is said by its own version, whatever the table's
-abbrev pub longestAsked : List ℕ → ℕ
+abbrev pub longestAsked : List ℕ → Seconds
 longestAsked r = cond (eqb (versionIn r) 1) (longestPeriod version1) (longestPeriod version2)
 
 -- ---- the table of kinds
@@ -127,19 +158,28 @@ longestAsked r = cond (eqb (versionIn r) 1) (longestPeriod version1) (longestPer
 abbrev pub identifierToSib : Request → List ℕ
 identifierToSib q = q .identifier ∷ q .serial ∷ q .content ∷ q .period .0 ∷ q .requested .0 ∷ q .sib ∷ []
 
--- flags allowed, areas allowed, fields that are zero
-unfoldable pub row : Request → List ℕ → List ℕ → List ℕ → Bool
-row q flags areas zero = oneOf (q .flags) flags && oneOf (q .area) areas && zeros zero
+abbrev pub anyArea : List ℕ
+anyArea = noArea ∷ cellArea ∷ trackingArea ∷ emergencyArea ∷ []
+
+-- what a cancel leaves out
+abbrev pub cancelZeros : Request → List ℕ
+cancelZeros q = q .content ∷ q .period .0 ∷ q .sib ∷ cond (notified q) [] (q .identifier ∷ q .serial ∷ [])
+
+-- the flags are one of these bytes, the area one of these, and the fields zero
+unfoldable pub allowed : Request → List ℕ → List ℕ → List ℕ → Bool
+allowed q flags areas zero = oneOf (q .flags) flags && oneOf (q .area) areas && zeros zero
+
+-- flags allowed and each sum of them; areas allowed; fields that are zero
+abbrev pub allowedBy : Kind → Request → Bool
+allowedBy aWriteReplace q = allowed q (0 ∷ 1 ∷ []) anyArea []
+allowedBy aCancel q = allowed q (0 ∷ 2 ∷ 4 ∷ 6 ∷ []) anyArea (cancelZeros q)
+allowedBy aRestart q = allowed q (0 ∷ []) (noArea ∷ cellArea ∷ []) (identifierToSib q)
+allowedBy aFailure q = allowed q (0 ∷ []) (noArea ∷ cellArea ∷ []) (identifierToSib q)
+allowedBy aSecond q = allowed q (0 ∷ []) (noArea ∷ []) (identifierToSib q)
+allowedBy unknownKind q = false
 
 unfoldable pub kindAllows : Request → Bool
-kindAllows q =
-    cond (eqb (q .kind) writeReplace) (row q (0 ∷ 1 ∷ []) (0 ∷ 1 ∷ 2 ∷ 3 ∷ []) [])
-    (cond (eqb (q .kind) cancelOrKill)
-    (row q (0 ∷ 2 ∷ 4 ∷ 6 ∷ []) (0 ∷ 1 ∷ 2 ∷ 3 ∷ [])
-    (q .content ∷ q .period .0 ∷ q .sib ∷ cond (notified q) [] (q .identifier ∷ q .serial ∷ [])))
-    (cond (eqb (q .kind) restartKind) (row q (0 ∷ []) (0 ∷ 1 ∷ []) (identifierToSib q))
-    (cond (eqb (q .kind) failureKind) (row q (0 ∷ []) (0 ∷ 1 ∷ []) (identifierToSib q))
-    (cond (eqb (q .kind) oneSecond) (row q (0 ∷ []) (0 ∷ []) (identifierToSib q)) false))))
+kindAllows q = allowedBy (kindOf (q .kind)) q
 
 -- "Area 0 exactly when n = 0."
 unfoldable pub areaFits : Request → ℕ → Bool
@@ -147,14 +187,22 @@ areaFits q n = cond (eqb (q .area) noArea) (eqb n 0) (not (eqb n 0))
 
 -- ---- limits
 
+-- the last two judge no item: area 0 has none, and an unknown area is refused before
+abbrev pub itemEndIn : Area → ℕ
+itemEndIn inCells = cellEnd
+itemEndIn inTrackingAreas = trackingEnd
+itemEndIn inEmergencyAreas = emergencyEnd
+itemEndIn everywhere = emergencyEnd
+itemEndIn unknownArea = emergencyEnd
+
 abbrev pub itemEnd : ℕ → ℕ
-itemEnd area = cond (eqb area cellArea) cellEnd (cond (eqb area trackingArea) trackingEnd emergencyEnd)
+itemEnd area = itemEndIn (areaOf area)
 
 -- a Write-Replace has a period that is not too long and SIB kind 6 to 8; no item is too large for its area
-unfoldable pub withinLimits : ℕ → Request → List ℕ → Bool
+unfoldable pub withinLimits : Seconds → Request → List ℕ → Bool
 withinLimits longest q items =
     (not (eqb (q .kind) writeReplace)
-    || leb (q .period .0) longest && leb firstSib (q .sib) && leb (q .sib) lastSib)
+    || leb (q .period .0) (longest .0) && leb firstSib (q .sib) && leb (q .sib) lastSib)
     && every (λ x. ltb x (itemEnd (q .area))) items
 
 -- "Cancel with neither flag 2 nor flag 4"

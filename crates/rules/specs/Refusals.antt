@@ -1,6 +1,7 @@
 -- Document 01's numbered refusals: when each is given, and in which order they are tested.
+use mathlib.Core.Path.{_≡_}
 use mathlib.Core.Bool.{Bool, true, false, not, _&&_}
-use mathlib.Core.List.{List, map}
+use mathlib.Core.List.{List, [], _∷_, _++_, map}
 use Prim.Native.Nat.{ℕ, _+_, _*_, _/_, _%_}
 use lib.Dec.{eqb, leb}
 use lib.ListN.{length}
@@ -10,6 +11,7 @@ use Rattle.rules.specs.Layout.{Version, version1, versionNumber, current
 use Rattle.rules.specs.Table.{legalHead, identityAt, cellCount, tableMarked, legalTable}
 use Rattle.rules.specs.Record.{longestAsked, requestOf, zeroByte, itemCount, itemsOf, recordMarked, kindAllows, areaFits, withinLimits, cancelsNothing}
 use Rattle.rules.specs.Answer.{roomFor}
+use Rattle.rules.specs.declared.Seconds.{Seconds}
 use Rattle.rules.specs.declared.Request.{Request}
 use Rattle.rules.specs.declared.Refusal.{Refusal}
 use Rattle.rules.specs.declared.Refusal.the-variants.{TableMark, TableWrong, RecordMark, RecordLength, RecordFields, RecordLimits, CancelsNothing, ShortBuffer, BadHeads, ListDamaged, TooManySegments, NoSuchSegment}
@@ -59,41 +61,39 @@ abbrev pub _then_ : Verdict → Verdict → Verdict
 Accepted then v = v
 Refused x then v = Refused x
 
--- 1, 2
-unfoldable pub tableVerdict : Version → List ℕ → Verdict
-tableVerdict v t =
-    refuseUnless (tableMarked (versionNumber v) t) TableMark then refuseUnless (legalTable v t) TableWrong
+-- what must hold, and the refusal that is given where it does not
+pub record Test : Type 0 where
+  pub holds : Bool
+  pub refusal : Refusal
 
--- 5, 6, 7: what is asked of the fields and the items, read or to be written, under a longest period
-unfoldable pub requestVerdict : ℕ → Request → List ℕ → Verdict
-requestVerdict longest q items =
-    refuseUnless (kindAllows q && areaFits q (length items)) RecordFields
-    then refuseUnless (withinLimits longest q items) RecordLimits
-    then refuseUnless (not (cancelsNothing q)) CancelsNothing
+abbrev pub test : Bool → Refusal → Test
+test b x = record { holds = b; refusal = x }
 
--- 3 to 7
-unfoldable pub recordVerdict : Version → List ℕ → Verdict
-recordVerdict v r =
-    refuseUnless (recordMarked v r) RecordMark
-    then refuseUnless (leb (itemCount r) mostItems && eqb (length r) (recordSize + itemSize * itemCount r)) RecordLength
-    then refuseUnless (eqb (zeroByte r) 0) RecordFields
-    then requestVerdict (longestAsked r) (requestOf r) (itemsOf r)
+-- the refusal of the first test that fails
+abbrev pub firstOf : List Test → Verdict
+firstOf [] = Accepted
+firstOf (t ∷ ts) = refuseUnless (t .holds) (t .refusal) then firstOf ts
 
--- 4 (n only), 5, 6, 7, 8
-unfoldable pub writeVerdict : Request → List ℕ → ℕ → Verdict
-writeVerdict q items room =
-    refuseUnless (leb (length items) mostItems) RecordLength
-    then requestVerdict (longestPeriod current) q items
-    then refuseUnless (leb (recordSize + itemSize * length items) room) ShortBuffer
+-- ---- the tests, by their numbers. 1: tableMarked. 2: legalTable. 3: recordMarked. 6: withinLimits
 
--- 1 to 8
-unfoldable pub applyVerdict : Version → List ℕ → List ℕ → ℕ → Verdict
-applyVerdict v t r room =
-    tableVerdict v t
-    then recordVerdict v r
-    then refuseUnless (leb (roomFor (requestOf r .kind) (cellCount t)) room) ShortBuffer
+-- 4
+abbrev pub fewItems : ℕ → Bool
+fewItems n = leb n mostItems
 
--- ---- building: 9, then 8
+abbrev pub rightLength : List ℕ → Bool
+rightLength r = fewItems (itemCount r) && eqb (length r) (recordSize + itemSize * itemCount r)
+
+-- 5: of n items, and whether the zero byte is zero
+abbrev pub fieldsAllowed : Bool → Request → ℕ → Bool
+fieldsAllowed zero q n = zero && kindAllows q && areaFits q n
+
+-- 7
+abbrev pub cancelsSome : Request → Bool
+cancelsSome q = not (cancelsNothing q)
+
+-- 8
+abbrev pub fitsIn : ℕ → ℕ → Bool
+fitsIn needed room = leb needed room
 
 abbrev pub headCount : List ℕ → ℕ
 headCount heads = length heads / headSize
@@ -101,7 +101,7 @@ headCount heads = length heads / headSize
 abbrev pub headRuns : List ℕ → List (List ℕ)
 headRuns heads = pieces headSize (headCount heads) heads
 
--- length a multiple of 24, N 1 to 512, legal heads, strictly ascending by NR CGI
+-- 9: length a multiple of 24, N 1 to 512, legal heads, strictly ascending by NR CGI
 unfoldable pub legalHeads : List ℕ → Bool
 legalHeads heads =
     eqb (length heads % headSize) 0
@@ -109,14 +109,104 @@ legalHeads heads =
     && every legalHead (headRuns heads)
     && ascending (map identityAt (headRuns heads))
 
-unfoldable pub buildVerdict : List ℕ → ℕ → Verdict
-buildVerdict heads room =
-    refuseUnless (legalHeads heads) BadHeads
-    then refuseUnless (leb (headerSize + cellSize current * headCount heads) room) ShortBuffer
+-- ---- which are made, in which order
 
--- ---- converting a version 1 table: 1, 2, then 8
+-- 1, 2
+abbrev pub tableTests : Version → List ℕ → List Test
+tableTests v t = test (tableMarked (versionNumber v) t) TableMark ∷ test (legalTable v t) TableWrong ∷ []
+
+-- 5, 6, 7: what is asked of the fields and the items, read or to be written, under a longest period
+abbrev pub requestTests : Bool → Seconds → Request → List ℕ → List Test
+requestTests zero longest q items =
+    test (fieldsAllowed zero q (length items)) RecordFields
+    ∷ test (withinLimits longest q items) RecordLimits
+    ∷ test (cancelsSome q) CancelsNothing
+    ∷ []
+
+-- 3 to 7
+abbrev pub recordTests : Version → List ℕ → List Test
+recordTests v r =
+    test (recordMarked v r) RecordMark
+    ∷ test (rightLength r) RecordLength
+    ∷ requestTests (eqb (zeroByte r) 0) (longestAsked r) (requestOf r) (itemsOf r)
+
+-- 4 (n only), 5, 6, 7, 8
+abbrev pub writeTests : Request → List ℕ → ℕ → List Test
+writeTests q items room =
+    (test (fewItems (length items)) RecordLength ∷ requestTests true (longestPeriod current) q items)
+    ++ (test (fitsIn (recordSize + itemSize * length items) room) ShortBuffer ∷ [])
+
+-- 1 to 8
+abbrev pub applyTests : Version → List ℕ → List ℕ → ℕ → List Test
+applyTests v t r room =
+    tableTests v t
+    ++ (recordTests v r ++ (test (fitsIn (roomFor (requestOf r .kind) (cellCount t)) room) ShortBuffer ∷ []))
+
+-- 9, then 8
+abbrev pub buildTests : List ℕ → ℕ → List Test
+buildTests heads room =
+    test (legalHeads heads) BadHeads
+    ∷ test (fitsIn (headerSize + cellSize current * headCount heads) room) ShortBuffer
+    ∷ []
+
+-- converting a version 1 table: 1, 2, then 8
+abbrev pub convertTests : List ℕ → ℕ → List Test
+convertTests old room =
+    tableTests version1 old
+    ++ (test (fitsIn (headerSize + cellSize current * cellCount old) room) ShortBuffer ∷ [])
+
+-- ---- the verdicts
+
+unfoldable pub tableVerdict : Version → List ℕ → Verdict
+tableVerdict v t = firstOf (tableTests v t)
+
+unfoldable pub requestVerdict : Seconds → Request → List ℕ → Verdict
+requestVerdict longest q items = firstOf (requestTests true longest q items)
+
+unfoldable pub recordVerdict : Version → List ℕ → Verdict
+recordVerdict v r = firstOf (recordTests v r)
+
+unfoldable pub writeVerdict : Request → List ℕ → ℕ → Verdict
+writeVerdict q items room = firstOf (writeTests q items room)
+
+unfoldable pub applyVerdict : Version → List ℕ → List ℕ → ℕ → Verdict
+applyVerdict v t r room = firstOf (applyTests v t r room)
+
+unfoldable pub buildVerdict : List ℕ → ℕ → Verdict
+buildVerdict heads room = firstOf (buildTests heads room)
 
 unfoldable pub convertVerdict : List ℕ → ℕ → Verdict
-convertVerdict old room =
-    tableVerdict version1 old
-    then refuseUnless (leb (headerSize + cellSize current * cellCount old) room) ShortBuffer
+convertVerdict old room = firstOf (convertTests old room)
+
+-- ---- when a number is given
+
+abbrev pub Held : List Test → Type 0
+Held [] = Unit {0}
+Held (t ∷ ts) = (t .holds ≡ true) × Held ts
+
+-- x's test fails, and all before it hold
+pub record FailsFirst (x : Refusal) (ts : List Test) : Type 0 where
+  pub before : List Test
+  pub behind : List Test
+  pub split : ts ≡ before ++ (test false x ∷ behind)
+  pub held : Held before
+
+-- a verdict refuses with x exactly if x's test is the first that fails, and accepts exactly if all hold
+pub record Exact (v : Verdict) (ts : List Test) : Type 0 where
+  pub refused : (x : Refusal) → v ≡ Refused x → FailsFirst x ts
+  pub refuses : (x : Refusal) → FailsFirst x ts → v ≡ Refused x
+  pub accepted : v ≡ Accepted → Held ts
+  pub accepts : Held ts → v ≡ Accepted
+
+-- each number has one test, and the lower number is tested first
+abbrev pub LowestFirst : List Test → Type 0
+LowestFirst ts = ascending (map (λ t. numberOf (t .refusal)) ts) ≡ true
+
+pub record VerdictsHold : Type 0 where
+  pub table : (v : Version) (t : List ℕ) → Exact (tableVerdict v t) (tableTests v t) × LowestFirst (tableTests v t)
+  pub read : (v : Version) (r : List ℕ) → Exact (recordVerdict v r) (recordTests v r) × LowestFirst (recordTests v r)
+  pub write : (q : Request) (items : List ℕ) (room : ℕ) → Exact (writeVerdict q items room) (writeTests q items room) × LowestFirst (writeTests q items room)
+  pub apply : (v : Version) (t r : List ℕ) (room : ℕ) → Exact (applyVerdict v t r room) (applyTests v t r room) × LowestFirst (applyTests v t r room)
+  -- "except that the builder tests 9, then 8"
+  pub build : (heads : List ℕ) (room : ℕ) → Exact (buildVerdict heads room) (buildTests heads room)
+  pub convert : (old : List ℕ) (room : ℕ) → Exact (convertVerdict old room) (convertTests old room) × LowestFirst (convertTests old room)

@@ -5,9 +5,9 @@ use Prim.Native.Nat.{ℕ, _+_, _*_}
 use lib.Dec.{eqb, ltb, leb}
 use lib.ListN.{length, take, drop, replicate}
 use Rattle.octets.specs.Runs.{pieces}
-use Rattle.octets.specs.Fields.{numbers, bytesOf, filled}
+use Rattle.octets.specs.Fields.{numbers, bytesOf, padded}
 use Rattle.rules.specs.Lists.{every, any, zeros, ascending, larger}
-use Rattle.rules.specs.Layout.{Version, versionNumber, field, headerFields, headFields, placeFields, placesPerCell, mostAreas, headerSize, headSize, placeSize, cellSize, tableMark, mostCells, longestPeriod, firstSib, lastSib, cellEnd}
+use Rattle.rules.specs.Layout.{Version, versionNumber, fieldOf, identityInHead, codeInHead, areasUsedInHead, areasInHead, identifierInPlace, serialInPlace, contentInPlace, periodInPlace, requestedInPlace, sentInPlace, waitInPlace, sibInPlace, liveInPlace, zeroInPlace, cellsInHeader, markField, versionField, placesInHeader, zeroInHeader, headerFields, headFields, placeFields, placesPerCell, mostAreas, headerSize, headSize, placeSize, cellSize, tableMark, mostCells, longestPeriod, firstSib, lastSib, cellEnd}
 use Rattle.rules.specs.declared.Place.{Place}
 
 -- ---- cells
@@ -26,22 +26,22 @@ pub record Cell : Type 0 where
 -- ---- a head and its 24 bytes
 
 abbrev pub areasUsed : List ℕ → ℕ
-areasUsed b = field headFields 2 b
+areasUsed b = fieldOf headFields areasUsedInHead b
 
 -- the four identifiers, used or not
 abbrev pub allAreas : List ℕ → List ℕ
-allAreas b = drop 3 (numbers headFields b)
+allAreas b = drop areasInHead (numbers headFields b)
 
 unfoldable pub headOf : List ℕ → Head
 headOf b =
     record {
-      identity = field headFields 0 b;
-      code = field headFields 1 b;
+      identity = fieldOf headFields identityInHead b;
+      code = fieldOf headFields codeInHead b;
       areas = take (areasUsed b) (allAreas b);
     }
 
 unfoldable pub headNumbers : Head → List ℕ
-headNumbers h = h .identity ∷ h .code ∷ length (h .areas) ∷ filled mostAreas 0 (h .areas)
+headNumbers h = h .identity ∷ h .code ∷ length (h .areas) ∷ padded mostAreas 0 (h .areas)
 
 unfoldable pub headBytes : Head → List ℕ
 headBytes h = bytesOf headFields (headNumbers h)
@@ -59,14 +59,14 @@ legalHead b =
 unfoldable pub placeOf : Version → List ℕ → Place
 placeOf v b =
     record {
-      identifier = field (placeFields v) 0 b;
-      serial = field (placeFields v) 1 b;
-      content = field (placeFields v) 2 b;
-      period = record { 0 = field (placeFields v) 3 b };
-      requested = record { 0 = field (placeFields v) 4 b };
-      sent = record { 0 = field (placeFields v) 5 b };
-      wait = record { 0 = field (placeFields v) 6 b };
-      sib = field (placeFields v) 7 b;
+      identifier = fieldOf (placeFields v) identifierInPlace b;
+      serial = fieldOf (placeFields v) serialInPlace b;
+      content = fieldOf (placeFields v) contentInPlace b;
+      period = record { 0 = fieldOf (placeFields v) periodInPlace b };
+      requested = record { 0 = fieldOf (placeFields v) requestedInPlace b };
+      sent = record { 0 = fieldOf (placeFields v) sentInPlace b };
+      wait = record { 0 = fieldOf (placeFields v) waitInPlace b };
+      sib = fieldOf (placeFields v) sibInPlace b;
     }
 
 unfoldable pub placeNumbers : Place → List ℕ
@@ -95,7 +95,7 @@ isFree b = zeros b
 
 -- live = 1, and zero in the last two bytes
 unfoldable pub isLive : Version → List ℕ → Bool
-isLive v b = eqb (field (placeFields v) 8 b) 1 && eqb (field (placeFields v) 9 b) 0
+isLive v b = eqb (fieldOf (placeFields v) liveInPlace b) 1 && eqb (fieldOf (placeFields v) zeroInPlace b) 0
 
 -- "Live places come first." Behind a free place all are free.
 unfoldable pub liveFirst : Version → List (List ℕ) → Bool
@@ -110,7 +110,7 @@ placesOf v (b ∷ bs) = cond (isFree b) [] (placeOf v b ∷ placesOf v bs)
 -- period at most 4095, in version 2 at most 131,071; period 0 only with requested 1; wait below the larger of period and 1; sent below requested unless requested is 0; SIB kind 6 to 8
 unfoldable pub legalPlace : Version → Place → Bool
 legalPlace v p =
-    leb (p .period .0) (longestPeriod v)
+    leb (p .period .0) (longestPeriod v .0)
     && (not (eqb (p .period .0) 0) || eqb (p .requested .0) 1)
     && ltb (p .wait .0) (larger (p .period .0) 1)
     && (eqb (p .requested .0) 0 || ltb (p .sent .0) (p .requested .0))
@@ -141,7 +141,7 @@ cellOf v c = record { head = headOf (take headSize c); places = placesOf v (plac
 
 -- the live places first, then free ones
 unfoldable pub placesBytes : Version → List Place → List ℕ
-placesBytes v ps = flatMap (λ b. b) (filled placesPerCell (freeBytes v) (map (placeBytes v) ps))
+placesBytes v ps = flatMap (λ b. b) (padded placesPerCell (freeBytes v) (map (placeBytes v) ps))
 
 unfoldable pub cellBytes : Version → Cell → List ℕ
 cellBytes v c = headBytes (c .head) ++ placesBytes v (c .places)
@@ -152,7 +152,7 @@ legalCell v c = legalHead (take headSize c) && legalPlaces v (placeRuns v c)
 -- ---- a whole table
 
 abbrev pub cellCount : List ℕ → ℕ
-cellCount t = field headerFields 2 t
+cellCount t = fieldOf headerFields cellsInHeader t
 
 abbrev pub cellRuns : Version → List ℕ → List (List ℕ)
 cellRuns v t = pieces (cellSize v) (cellCount t) (drop headerSize t)
@@ -171,14 +171,14 @@ identityAt b = headOf (take headSize b) .identity
 
 -- the mark, and the version by its number
 unfoldable pub tableMarked : ℕ → List ℕ → Bool
-tableMarked n t = leb 5 (length t) && eqb (field headerFields 0 t) tableMark && eqb (field headerFields 1 t) n
+tableMarked n t = leb 5 (length t) && eqb (fieldOf headerFields markField t) tableMark && eqb (fieldOf headerFields versionField t) n
 
 -- 1 to 512 cells; the byte 4; zeros; the exact length; legal cells, strictly ascending by NR CGI
 unfoldable pub legalTable : Version → List ℕ → Bool
 legalTable v t =
     (leb 1 (cellCount t) && leb (cellCount t) mostCells)
-    && eqb (field headerFields 3 t) placesPerCell
-    && eqb (field headerFields 4 t) 0
+    && eqb (fieldOf headerFields placesInHeader t) placesPerCell
+    && eqb (fieldOf headerFields zeroInHeader t) 0
     && eqb (length t) (headerSize + cellSize v * cellCount t)
     && every (legalCell v) (cellRuns v t)
     && ascending (map identityAt (cellRuns v t))

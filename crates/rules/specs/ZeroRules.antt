@@ -25,23 +25,23 @@ pub data Period : Type 0 where
 
 pub data Decision : Type 0 where
   idle : Decision
-  starts : Decision
+  proceeds : Decision
 
 -- ---- the table, a row for each case
 
 abbrev pub decided : Concurrent → Requested → Period → Decision
 decided no requested0 period0 = idle
 decided no requested0 periodMore = idle
-decided no requested1 period0 = starts
-decided no requested1 periodMore = starts
+decided no requested1 period0 = proceeds
+decided no requested1 periodMore = proceeds
 decided no requestedMore period0 = idle
-decided no requestedMore periodMore = starts
+decided no requestedMore periodMore = proceeds
 decided yes requested0 period0 = idle
-decided yes requested0 periodMore = starts
-decided yes requested1 period0 = starts
-decided yes requested1 periodMore = starts
+decided yes requested0 periodMore = proceeds
+decided yes requested1 period0 = proceeds
+decided yes requested1 periodMore = proceeds
 decided yes requestedMore period0 = idle
-decided yes requestedMore periodMore = starts
+decided yes requestedMore periodMore = proceeds
 
 -- ---- the row of a request
 
@@ -56,7 +56,7 @@ periodOf n = cond (eqb n 0) period0 periodMore
 
 abbrev pub stops : Decision → Bool
 stops idle = true
-stops starts = false
+stops proceeds = false
 
 abbrev pub zeroRulesStop : Request → Bool
 zeroRulesStop q = stops (decided (concurrentOf q) (requestedOf (q .requested .0)) (periodOf (q .period .0)))

@@ -1,5 +1,7 @@
 // Document 01's sizes, offsets and limits, once for all code. specs/Layout has them for the statements; each proof that uses both joins them.
 
+use crate::CellIdentity;
+
 // ---- the table
 
 pub const HEADER: usize = 16;
@@ -120,7 +122,7 @@ pub const ZERO_AT: usize = 23;
 pub const COUNT_AT: usize = 24;
 
 // What an item, by its area, stays below.
-pub const CELL_END: u64 = 1 << 60;
+pub const CELL_END: u64 = CellIdentity::LARGEST + 1;
 
 pub const TRACKING_END: u64 = 1 << 48;
 

@@ -169,7 +169,7 @@ impl CellIdentity {
     pub fn tracking_item(self, code: u32) -> u64
         ensures { λ r. ⌜ r ≡ trackingItem (self .0) code ⌝ }
     {
-        self.0 / PART_END * CODE_END + (code as u64)
+        (self.plmn() as u64) * CODE_END + (code as u64)
     }
 }
 

@@ -10,7 +10,7 @@ use lib.Dec.{eqb, leb}
 use lib.ListN.{length, take, drop}
 use Rattle.octets.specs.Runs.{gets, pieces}
 use Rattle.octets.specs.Numbers.{be}
-use Rattle.rules.specs.Layout.{Version, versionNumber, field, headerFields, placesPerCell, headerSize, cellSize, mostCells}
+use Rattle.rules.specs.Layout.{Version, versionNumber, fieldOf, placesInHeader, zeroInHeader, headerFields, placesPerCell, headerSize, cellSize, mostCells}
 use Rattle.rules.specs.Table.{cellCount, cellRuns, legalCell, tableMarked, legalTable}
 use Rattle.rules.specs.Refusals.{tableVerdict}
 use Rattle.rules.specs.declared.Refusal.the-variants.{TableMark, TableWrong}
@@ -29,7 +29,7 @@ module _ (v : Version) where
   header-size : (t : List ℕ) → legalHeader (cellSize v) t ≡ true → length t ≡ headerSize + cellSize v * cellCount t
   unfolding legalHeader
   header-size t e =
-      let tests = both (leb 1 (cellCount t) && leb (cellCount t) mostCells && eqb (field headerFields 3 t) placesPerCell && eqb (field headerFields 4 t) 0) (eqb (length t) (headerSize + cellSize v * cellCount t)) e in
+      let tests = both (leb 1 (cellCount t) && leb (cellCount t) mostCells && eqb (fieldOf headerFields placesInHeader t) placesPerCell && eqb (fieldOf headerFields zeroInHeader t) 0) (eqb (length t) (headerSize + cellSize v * cellCount t)) e in
       eqb-true (length t) (headerSize + cellSize v * cellCount t) (tests .1)
 
   -- the header was found legal

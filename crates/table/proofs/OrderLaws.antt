@@ -17,7 +17,7 @@ use Rattle.octets.specs.Fields.{size}
 use Rattle.octets.proofs.RunsLaws.{gets-eq, gets-gets}
 use Rattle.octets.proofs.FieldsLaws.{numbers-take}
 use Rattle.rules.specs.Lists.{every, above, ascending}
-use Rattle.rules.specs.Layout.{Version, field, headFields, headSize, cellEnd}
+use Rattle.rules.specs.Layout.{Version, fieldOf, headFields, headSize, cellEnd}
 use Rattle.rules.specs.Table.{Head, headOf, legalHead, legalCell, identityAt}
 use Rattle.rules.proofs.HeadCodec.{legal-head}
 use Rattle.rules.proofs.CellCodec.{legal-cell}
@@ -101,7 +101,7 @@ module _ {f : List ℕ → Bool} {w count : ℕ} {l : List ℕ} {at left least :
 
 -- a head's own bytes say its NR CGI
 same-head : (b : List ℕ) → headOf (take headSize b) ≡ headOf b
-unfolding headOf field size
+unfolding headOf fieldOf size
 same-head b = rw (numbers-take headFields b headSize (omega arith))
 
 pub head-small : (b : List ℕ) → legalHead b ≡ true → identityAt b < cellEnd

@@ -14,7 +14,7 @@ use Rattle.octets.proofs.RunsLaws.{length-gets, bytes-gets}
 use Rattle.octets.proofs.NumbersLaws.{be-lt, be-run}
 use Rattle.octets.proofs.FieldsLaws.{numbers-zeros}
 use Rattle.rules.specs.Lists.{every, any}
-use Rattle.rules.specs.Layout.{current, field, placeFields, placeSize, placesPerCell}
+use Rattle.rules.specs.Layout.{current, fieldOf, liveInPlace, placeFields, placeSize, placesPerCell}
 use Rattle.rules.specs.Table.{placeOf, isFree, isLive, liveFirst, placesOf, legalPlace, isText, running, different, legalPlaces}
 use Rattle.rules.specs.declared.Place.{Place}
 use Rattle.rules.proofs.ListsLaws.{both, by-test, cond-either, zeros-replicate}
@@ -100,14 +100,14 @@ small-places (more {x = b} {xs = bs} r rs) = cond-either (All Small) (isFree b) 
 -- ---- the live byte
 
 abbrev pub liveByte : List ℕ → ℕ
-liveByte b = field (placeFields current) 8 b
+liveByte b = fieldOf (placeFields current) liveInPlace b
 
 zero-not-live : (b : List ℕ) → liveByte b ≡ 0 → isLive current b ≡ false
 unfolding isLive
 zero-not-live b e = rw e
 
 free-zero : (b : List ℕ) → isFree b ≡ true → liveByte b ≡ 0
-unfolding isFree field
+unfolding isFree fieldOf
 free-zero b e = rw (zeros-replicate b e, numbers-zeros (placeFields current) (length b))
 
 -- ---- the walk, with all texts passed

@@ -5,7 +5,7 @@ use Prim.Native.Nat.{ℕ, _+_, _*_}
 use lib.Dec.{eqb, leb}
 use lib.ListN.{length, take, drop}
 use Rattle.rules.specs.Lists.{every, zeros, ascending}
-use Rattle.rules.specs.Layout.{current, field, headerFields, placesPerCell, mostAreas, headerSize, mostCells}
+use Rattle.rules.specs.Layout.{current, fieldOf, placesInHeader, zeroInHeader, headerFields, placesPerCell, mostAreas, headerSize, mostCells}
 use Rattle.rules.specs.Table.{isLive, placeOf, legalPlace, cellCount, identityAt}
 
 -- at most four are used, the used ones come first and ascend, the rest is zero
@@ -20,8 +20,8 @@ legalLive b = isLive current b && legalPlace current (placeOf current b)
 unfoldable pub legalHeader : ℕ → List ℕ → Bool
 legalHeader size t =
     (leb 1 (cellCount t) && leb (cellCount t) mostCells)
-    && eqb (field headerFields 3 t) placesPerCell
-    && eqb (field headerFields 4 t) 0
+    && eqb (fieldOf headerFields placesInHeader t) placesPerCell
+    && eqb (fieldOf headerFields zeroInHeader t) 0
     && eqb (length t) (headerSize + size * cellCount t)
 
 -- runs of bytes that f finds legal, strictly ascending by NR CGI

@@ -14,6 +14,7 @@ use octets::get16;
 use octets::get32;
 use octets::get64;
 use rules::Broadcasts;
+use rules::CellIdentity;
 use rules::Place;
 use rules::Refusal;
 use rules::Seconds;
@@ -114,14 +115,14 @@ fn cells_legal(cells: &[u8], count: usize) -> bool
     let mut least: u64 = 0;
     while 0 < left {
         let end = at + CELL;
-        let identity = get64(cells, at);
-        if identity < least {
+        let identity = CellIdentity(get64(cells, at));
+        if identity.0 < least {
             return false;
         }
         if !cell_legal(&cells[at..end]) {
             return false;
         }
-        least = identity + 1;
+        least = identity.0 + 1;
         at = end;
         left -= 1;
     }

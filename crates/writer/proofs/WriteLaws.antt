@@ -24,6 +24,7 @@ use Rattle.rules.specs.declared.Verdict.{Verdict}
 use Rattle.rules.specs.declared.Verdict.the-variants.{Accepted, Refused}
 use Rattle.rules.proofs.LayoutLaws.{record-size}
 use Rattle.rules.proofs.FitLaws.{length-written}
+use Rattle.rules.proofs.VerdictLaws.{write-chain}
 use Rattle.rules.proofs.RecordTrips.{AcceptedWriting, writing-accepted}
 
 -- ---- items that are stored
@@ -92,22 +93,18 @@ fields-put q n l {a} {b} {c} e₁ e₂ e₃ e₄ =
 
 module _ (q : Request) (items : List ℕ) (room : ℕ) where
   pub many-refused : mostItems < length items → Refused RecordLength ≡ writeVerdict q items room
-  unfolding writeVerdict
-  many-refused t = rw (lt-leb (length items) mostItems t)
+  many-refused t = rw (write-chain q items room, lt-leb (length items) mostItems t)
 
   module _ (few : length items ≤ mostItems) {v : Verdict} (e : v ≡ requestVerdict (longestPeriod current) q items) where
     pub request-refused : {x : Refusal} → v ≡ Refused x → Refused x ≡ writeVerdict q items room
-    unfolding writeVerdict
-    request-refused t = rw (le-leb (length items) mostItems few, ← e, t)
+    request-refused t = rw (write-chain q items room, le-leb (length items) mostItems few, ← e, t)
 
     module _ (t : v ≡ Accepted) where
       pub room-refused : room < recordSize + itemSize * length items → Refused ShortBuffer ≡ writeVerdict q items room
-      unfolding writeVerdict
-      room-refused h = rw (le-leb (length items) mostItems few, ← e, t, lt-leb (recordSize + itemSize * length items) room h)
+      room-refused h = rw (write-chain q items room, le-leb (length items) mostItems few, ← e, t, lt-leb (recordSize + itemSize * length items) room h)
 
       pub writing-allowed : recordSize + itemSize * length items ≤ room → Accepted ≡ writeVerdict q items room
-      unfolding writeVerdict
-      writing-allowed h = rw (le-leb (length items) mostItems few, ← e, t, le-leb (recordSize + itemSize * length items) room h)
+      writing-allowed h = rw (write-chain q items room, le-leb (length items) mostItems few, ← e, t, le-leb (recordSize + itemSize * length items) room h)
 
 -- ---- what is written
 

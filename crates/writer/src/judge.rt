@@ -1,12 +1,10 @@
 // The tests 4 to 8 of a request and its items before they are written: document 01, "The request record". The crate record has those that the reader asks too.
 ghost use mathlib.Core.Path.{_≡_};
-ghost use mathlib.Core.Bool.{cond};
-ghost use mathlib.Core.List.{[], _∷_};
 ghost use lib.Dec.{ltb};
 ghost use Rattle.octets.specs.Joined.{joined};
 ghost use Rattle.rules.specs.Layout.{current, longestPeriod};
 ghost use Rattle.rules.specs.Lists.{every, zeros};
-ghost use Rattle.rules.specs.Record.{identifierToSib, itemEnd, kindAllows, notified};
+ghost use Rattle.rules.specs.Record.{cancelZeros, identifierToSib, itemEnd, kindAllows};
 ghost use Rattle.rules.specs.Refusals.{requestVerdict, writeVerdict};
 use record::judge::any_area;
 use record::judge::area_fits;
@@ -17,6 +15,7 @@ use record::judge::names_text;
 use record::judge::text_within;
 use rules::Refusal;
 use rules::Request;
+use rules::Seconds;
 use rules::Verdict;
 use rules::kind::CANCEL_OR_KILL;
 use rules::kind::CELLS;
@@ -47,7 +46,7 @@ fn no_text(request: Request) -> bool
 
 // What a cancel leaves out is zero.
 fn cancel_zeros(request: Request) -> bool
-    ensures { λ r. ⌜ r ≡ zeros (request .content ∷ request .period .0 ∷ request .sib ∷ cond (notified request) [] (request .identifier ∷ request .serial ∷ [])) ⌝ }
+    ensures { λ r. ⌜ r ≡ zeros (cancelZeros request) ⌝ }
 {
     ((request.content | request.period.0 | (request.sib as u32)) == 0)
         & (names_text(request) | ((request.identifier == 0) & (request.serial == 0)))
@@ -108,7 +107,7 @@ fn judged(request: Request, items: &[u64]) -> Verdict
     if !(kind_allows(request) & area_fits(request, items.len())) {
         return Verdict::Refused(Refusal::RecordFields);
     }
-    if !text_within(request, LONGEST_PERIOD) {
+    if !text_within(request, Seconds(LONGEST_PERIOD)) {
         return Verdict::Refused(Refusal::RecordLimits);
     }
     if !items_small(items, request.area) {

@@ -40,8 +40,9 @@ get64-requires c κs = search needs
 
 returns : tie.Need-returns Inv-loop μ-loop
 returns c =
-    let loop = c .before .before .before in
-    sym (runs-below (loop .loop .inv) (omega arith) (omega arith) _ (c .before .get64 .ensures) (c .if1 .taken))
+    let read = c .before .before in
+    let loop = read .before .before in
+    sym (runs-below (loop .loop .inv) (omega arith) (omega arith) _ (read .get64 .ensures) (c .if1 .taken))
 
 sub-head-legal : tie.Need-sub-head-legal Inv-loop μ-loop
 sub-head-legal c = search needs
@@ -57,15 +58,15 @@ head-legal-requires c κs = search needs
 
 returns-2 : tie.Need-returns-2 Inv-loop μ-loop
 returns-2 c =
-    let read = c .before .before .before .before in
+    let read = c .before .before .before .before .before in
     let loop = read .before .before in
     sym (runs-wrong (loop .loop .inv) (omega arith) (omega arith) _ (read .get64 .ensures) (c .before .before .before .if1 .left) _ (c .before .head-legal .ensures) (c .if2 .taken))
 
 add-least : tie.Need-add-least Inv-loop μ-loop
 add-least c =
-    let read = c .before .before .before .before in
+    let read = c .before .before .before .before .before .before in
     let loop = read .before .before in
-    let small : read .get64 .result < cellEnd = runs-small (loop .loop .inv) (omega arith) (omega arith) _ (read .get64 .ensures) (c .before .before .before .if1 .left) _ (c .before .head-legal .ensures) head-small (c .if2 .left) in
+    let small : read .get64 .result < cellEnd = runs-small (loop .loop .inv) (omega arith) (omega arith) _ (read .get64 .ensures) (c .before .before .before .before .if1 .left) _ (c .before .before .head-legal .ensures) head-small (c .before .if2 .left) in
     omega arith
 
 loop-less : tie.Need-loop-less Inv-loop μ-loop
@@ -73,11 +74,11 @@ loop-less c = omega arith
 
 loop-again : tie.Need-loop-again Inv-loop μ-loop
 loop-again c =
-    let read = c .before .before .before .before in
+    let read = c .before .before .before .before .before .before in
     let loop = read .before .before in
     let heads = loop .before .before .args .heads .now in
     let one-less : behind heads (loop .loop .at) - 1 ≡ behind heads (loop .loop .at + headSize) = omega arith in
-    left-is (runs-on (loop .loop .inv) (omega arith) (omega arith) _ (read .get64 .ensures) (c .before .before .before .if1 .left) _ (c .before .head-legal .ensures) (c .if2 .left)) one-less
+    left-is (runs-on (loop .loop .inv) (omega arith) (omega arith) _ (read .get64 .ensures) (c .before .before .before .before .if1 .left) _ (c .before .before .head-legal .ensures) (c .before .if2 .left)) one-less
 
 returns-3 : tie.Need-returns-3 Inv-loop μ-loop
 returns-3 c = sym (runs-end (c .before .loop .inv) (omega arith))

@@ -27,8 +27,9 @@ get64-requires c κs = search needs
 
 returns : tie.Need-returns Inv-loop μ-loop
 returns c =
-    let loop = c .before .before .before in
-    sym (runs-below (loop .loop .inv) (c .before .before .loop-test .taken) (omega arith) _ (c .before .get64 .ensures) (c .if1 .taken))
+    let read = c .before .before in
+    let loop = read .before .before in
+    sym (runs-below (loop .loop .inv) (read .before .loop-test .taken) (omega arith) _ (read .get64 .ensures) (c .if1 .taken))
 
 sub-cell-legal : tie.Need-sub-cell-legal Inv-loop μ-loop
 sub-cell-legal c = search needs
@@ -44,15 +45,15 @@ cell-legal-requires c κs = search needs
 
 returns-2 : tie.Need-returns-2 Inv-loop μ-loop
 returns-2 c =
-    let read = c .before .before .before .before in
+    let read = c .before .before .before .before .before in
     let loop = read .before .before in
     sym (runs-wrong (loop .loop .inv) (read .before .loop-test .taken) (omega arith) _ (read .get64 .ensures) (c .before .before .before .if1 .left) _ (c .before .cell-legal .ensures) (c .if2 .taken))
 
 add-least : tie.Need-add-least Inv-loop μ-loop
 add-least c =
-    let read = c .before .before .before .before in
+    let read = c .before .before .before .before .before .before in
     let loop = read .before .before in
-    let small : read .get64 .result < cellEnd = runs-small (loop .loop .inv) (read .before .loop-test .taken) (omega arith) _ (read .get64 .ensures) (c .before .before .before .if1 .left) _ (c .before .cell-legal .ensures) (cell-small current) (c .if2 .left) in
+    let small : read .get64 .result < cellEnd = runs-small (loop .loop .inv) (read .before .loop-test .taken) (omega arith) _ (read .get64 .ensures) (c .before .before .before .before .if1 .left) _ (c .before .before .cell-legal .ensures) (cell-small current) (c .before .if2 .left) in
     omega arith
 
 sub-left : tie.Need-sub-left Inv-loop μ-loop
@@ -63,9 +64,9 @@ loop-less c = search needs
 
 loop-again : tie.Need-loop-again Inv-loop μ-loop
 loop-again c =
-    let read = c .before .before .before .before in
+    let read = c .before .before .before .before .before .before in
     let loop = read .before .before in
-    runs-on (loop .loop .inv) (read .before .loop-test .taken) (omega arith) _ (read .get64 .ensures) (c .before .before .before .if1 .left) _ (c .before .cell-legal .ensures) (c .if2 .left)
+    runs-on (loop .loop .inv) (read .before .loop-test .taken) (omega arith) _ (read .get64 .ensures) (c .before .before .before .before .if1 .left) _ (c .before .before .cell-legal .ensures) (c .before .if2 .left)
 
 returns-3 : tie.Need-returns-3 Inv-loop μ-loop
 returns-3 c = sym (runs-end (c .before .loop .inv) (c .loop-test .left))

@@ -33,11 +33,12 @@ get64-requires c κs = search needs
 
 returns : tie.Need-returns Inv-loop μ-loop
 returns c =
-    let loop = c .before .before .before in
-    sym (runs-below (loop .loop .inv .runs) (c .before .before .loop-test .taken) (omega arith) _ (c .before .get64 .ensures) (c .if1 .taken))
+    let read = c .before .before in
+    let loop = read .before .before in
+    sym (runs-below (loop .loop .inv .runs) (read .before .loop-test .taken) (omega arith) _ (read .get64 .ensures) (c .if1 .taken))
 
 slice-aggregate-old-cell-legal : tie.Need-slice-aggregate-old-cell-legal Inv-loop μ-loop
-slice-aggregate-old-cell-legal c = sym (c .before .before .before .before .loop .inv .room)
+slice-aggregate-old-cell-legal c = sym (c .before .before .before .before .before .loop .inv .room)
 
 sub-old-cell-legal : tie.Need-sub-old-cell-legal Inv-loop μ-loop
 sub-old-cell-legal c = search needs
@@ -49,19 +50,19 @@ part-old-cell-legal-end : tie.Need-part-old-cell-legal-end Inv-loop μ-loop
 part-old-cell-legal-end c = search needs
 
 old-cell-legal-requires : tie.Need-old-cell-legal-requires Inv-loop μ-loop
-old-cell-legal-requires c κs = (c .before .before .before .before .before .loop .inv .room, search needs)
+old-cell-legal-requires c κs = (c .before .before .before .before .before .before .loop .inv .room, search needs)
 
 returns-2 : tie.Need-returns-2 Inv-loop μ-loop
 returns-2 c =
-    let read = c .before .before .before .before .before .before in
+    let read = c .before .before .before .before .before .before .before in
     let loop = read .before .before in
     sym (runs-wrong (loop .loop .inv .runs) (read .before .loop-test .taken) (omega arith) _ (read .get64 .ensures) (c .before .before .before .before .before .if1 .left) _ (c .before .before .old-cell-legal .ensures) (c .if2 .taken))
 
 add-least : tie.Need-add-least Inv-loop μ-loop
 add-least c =
-    let read = c .before .before .before .before .before .before in
+    let read = c .before .before .before .before .before .before .before .before in
     let loop = read .before .before in
-    let small : read .get64 .result < cellEnd = runs-small (loop .loop .inv .runs) (read .before .loop-test .taken) (omega arith) _ (read .get64 .ensures) (c .before .before .before .before .before .if1 .left) _ (c .before .before .old-cell-legal .ensures) (cell-small version1) (c .if2 .left) in
+    let small : read .get64 .result < cellEnd = runs-small (loop .loop .inv .runs) (read .before .loop-test .taken) (omega arith) _ (read .get64 .ensures) (c .before .before .before .before .before .before .if1 .left) _ (c .before .before .before .old-cell-legal .ensures) (cell-small version1) (c .before .if2 .left) in
     omega arith
 
 sub-left : tie.Need-sub-left Inv-loop μ-loop
@@ -72,11 +73,11 @@ loop-less c = search needs
 
 loop-again : tie.Need-loop-again Inv-loop μ-loop
 loop-again c =
-    let read = c .before .before .before .before .before .before in
+    let read = c .before .before .before .before .before .before .before .before in
     let loop = read .before .before in
     record {
-      runs = runs-on (loop .loop .inv .runs) (read .before .loop-test .taken) (omega arith) _ (read .get64 .ensures) (c .before .before .before .before .before .if1 .left) _ (c .before .before .old-cell-legal .ensures) (c .if2 .left);
-      room = c .before .before .old-cell-legal .kept .0 ∙ loop .loop .inv .room;
+      runs = runs-on (loop .loop .inv .runs) (read .before .loop-test .taken) (omega arith) _ (read .get64 .ensures) (c .before .before .before .before .before .before .if1 .left) _ (c .before .before .before .old-cell-legal .ensures) (c .before .if2 .left);
+      room = c .before .before .before .old-cell-legal .kept .0 ∙ loop .loop .inv .room;
     }
 
 returns-3 : tie.Need-returns-3 Inv-loop μ-loop

@@ -1,9 +1,9 @@
 -- `room_for` is the room that document 01 asks for, by the kind.
 -- Each way out is its case.
 use native.Mathlib.Omega.{arith}
-use borrow.Author.Tests.{eq-eqb, ne-eqb}
-use Rattle.rules.specs.Answer.{roomFor}
-use Rattle.rules.specs.Record.{oneSecond}
+use mathlib.Core.Path.{ap}
+use Rattle.rules.specs.Answer.{rowsPerCell, roomFor}
+use Rattle.rules.proofs.KindAreaLaws.{rows-other}
 use borrow.Author.Needs.{needs}
 use Rattle.engine.proofs.apply.room_for.Statement.{statement}
 use Rattle.engine.proofs.apply.room_for.Tie as tie
@@ -19,7 +19,7 @@ add-result c = search needs
 
 returns : tie.Need-returns
 unfolding roomFor
-returns c = rw (eq-eqb (c .before .args .kind) oneSecond (c .if1 .taken)) (omega arith)
+returns c = rw (ap rowsPerCell (c .if1 .taken)) (omega arith)
 
 mul-result-3 : tie.Need-mul-result-3
 mul-result-3 c = search needs
@@ -29,7 +29,7 @@ add-result-2 c = search needs
 
 returns-2 : tie.Need-returns-2
 unfolding roomFor
-returns-2 c = rw (ne-eqb (c .before .args .kind) oneSecond (c .if1 .left)) (omega arith)
+returns-2 c = rw (rows-other (c .before .args .kind) (c .before .pre .1) (c .if1 .left)) (omega arith)
 
 pub room-for-spec : {M : Type 1} → statement M
 room-for-spec =

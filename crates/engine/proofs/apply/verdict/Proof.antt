@@ -2,7 +2,7 @@
 -- Each way out is its case of `applyVerdict`, by the verdicts that led there.
 use mathlib.Core.Path.{sym, _∙_}
 use native.Mathlib.Omega.{arith}
-use Rattle.engine.proofs.ApplyLaws.{table-refused, record-refused, room-refused, none-refused, long-table, long-record, few-cells}
+use Rattle.engine.proofs.ApplyLaws.{table-refused, record-refused, room-refused, none-refused, long-table, long-record, few-cells, known-kind}
 use borrow.Author.Needs.{needs}
 use Rattle.engine.proofs.apply.verdict.Statement.{statement}
 use Rattle.engine.proofs.apply.verdict.Tie as tie
@@ -39,8 +39,10 @@ cells-of-requires : tie.Need-cells-of-requires
 cells-of-requires c κs = long-table _ (sym (c .before .before .before .before .before .before .verdict .ensures) ∙ c .before .before .before .before .enum-told .given .1)
 
 room-for-requires : tie.Need-room-for-requires
-room-for-requires c κs =
-    omega (arith, c .cells-of .ensures, few-cells _ (sym (c .before .before .before .before .before .before .before .verdict .ensures) ∙ c .before .before .before .before .before .enum-told .given .1))
+room-for-requires c κs = (
+  omega (arith, c .cells-of .ensures, few-cells _ (sym (c .before .before .before .before .before .before .before .verdict .ensures) ∙ c .before .before .before .before .before .enum-told .given .1)),
+  rw (c .before .request .ensures) (known-kind _ (sym (c .before .before .before .before .verdict2 .ensures) ∙ c .before .before .enum-told2 .given .1)),
+)
 
 returns-3 : tie.Need-returns-3
 returns-3 c =

@@ -13,10 +13,11 @@ use Rattle.rules.specs.Table.{Head, cellOf, cellRuns}
 use Rattle.rules.specs.Record.{itemsOf}
 use Rattle.rules.specs.declared.Request.{Request}
 use Rattle.rules.specs.Answer.{rowBytes}
+use Rattle.rules.proofs.KindAreaLaws.{rows-most}
 use Rattle.engine.specs.Walk.{rowsAfter, tableAfter}
 use Rattle.engine.specs.Reach.{namedBy}
 use Rattle.engine.proofs.Searching.{Searching, Searched, search-start, search-miss, search-hit, search-end}
-use Rattle.engine.proofs.WalkFacts.{items-span, no-items, next-item, all-looked, named-here, few-rows, GoingOn, begin, asked, passed, stepped, stepped-silent}
+use Rattle.engine.proofs.WalkFacts.{items-span, no-items, next-item, all-looked, named-here, GoingOn, begin, asked, passed, stepped, stepped-silent}
 use Rattle.engine.proofs.Walking.{cell-long, few-here, over-table, over-count, over-answer}
 use Rattle.engine.proofs.walk.walk.Statement.{statement}
 use Rattle.engine.proofs.walk.walk.Tie as tie
@@ -184,7 +185,7 @@ stepped-at c = cell-at (c .before .before .before .before .before)
 mul-out : tie.Need-mul-out Inv-items μ-items Inv-cells μ-cells
 mul-out c =
     let s : AfterStep = c .before .before .before .before .before in
-    omega (arith, s .step-cell .ensures .few, few-rows (called (stepped-at s) .args .request .kind))
+    omega (arith, s .step-cell .ensures .few, rows-most (called (stepped-at s) .args .request .kind))
 
 -- so many rows have room
 room-for : (s : AfterStep) → s .step-cell .result + stepped-at s .before .cells .rows ≤ placesPerCell * mostCells

@@ -13,7 +13,7 @@ returns c = rw (ne-eqb _ _ (c .if1 .taken))
 
 returns-2 : tie.Need-returns-2
 unfolding withinLimits every
-returns-2 c = rw (eq-eqb _ _ (c .before .before .before .if1 .left)) (simp and-true)
+returns-2 c = rw (eq-eqb _ _ (c .before .before .before .before .if1 .left)) (simp and-true)
 
 pub text-within-spec : {M : Type 1} → statement M
 text-within-spec = tie.close (tie.spec returns returns-2)

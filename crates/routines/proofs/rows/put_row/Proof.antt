@@ -26,7 +26,7 @@ same-length c = search needs
 returns : tie.Need-returns
 returns c =
     let s = c .before .before .before .before .before .before .before .before .before .before .before .before .before .args in
-    row-stored (s .out .now) (s .at) (record { identity = s .identity; count = s .count .0; content = s .content }) _ _ _ (c .before .before .before .before .before .before .before .before .before .before .put64 .ensures) (c .before .before .before .before .before .before .put16 .ensures) (c .before .before .put32 .ensures)
+    row-stored (s .out .now) (s .at) (record { identity = s .identity .0; count = s .count .0; content = s .content }) _ _ _ (c .before .before .before .before .before .before .before .before .before .before .put64 .ensures) (c .before .before .before .before .before .before .put16 .ensures) (c .before .before .put32 .ensures)
 
 pub put-row-spec : {M : Type 1} → statement M
 put-row-spec =

@@ -2,6 +2,7 @@
 -- What each call read or stored, handed to `aired`.
 use mathlib.Core.Path.{ap, _∙_}
 use Rattle.rules.specs.declared.Broadcasts.{Broadcasts}
+use Rattle.rules.specs.declared.CellIdentity.{CellIdentity}
 use Rattle.routines.proofs.Airing.{aired}
 use borrow.Author.Needs.{needs}
 use Rattle.routines.proofs.second.air.Statement.{statement}
@@ -54,7 +55,7 @@ returns c =
     (c .before .before .before .before .before .before .before .before .before .before .before .before .before .before .one-more .ensures ∙ rw (c .before .before .before .before .before .before .before .before .before .before .before .before .before .before .before .sent .ensures))
     (c .before .before .before .before .before .before .before .before .before .before .before .before .before .one-less .ensures ∙ rw (terms .0))
     (ap (λ (x : Broadcasts). x .0) (terms .1))
-    (c .before .before .before .before .before .before .before .before .before .before .before .identity .ensures)
+    (ap (λ (x : CellIdentity). x .0) (c .before .before .before .before .before .before .before .before .before .before .before .identity .ensures))
     (c .before .before .before .before .before .before .before .before .before .content .ensures)
     _ _
     (c .before .before .before .before .before .before .before .set-counts .ensures)

@@ -2,7 +2,7 @@
 -- Each way out is the kind's own routine, by the law of its kind.
 use mathlib.Core.Path.{_≡_, refl}
 use Rattle.rules.specs.Record.{writeReplace, cancelOrKill, restartKind, failureKind}
-use Rattle.rules.proofs.VerdictLaws.{kind-known}
+use Rattle.rules.proofs.KindAreaLaws.{kind-known}
 use Rattle.rules.proofs.InCellLaws.{inCell-start, inCell-cancel, inCell-restart, inCell-failure}
 use Rattle.routines.proofs.KindLaws.{ready-for, stepped-by, rows-of-kind, is-failure}
 use borrow.Author.Needs.{needs}
