@@ -52,10 +52,7 @@ fn cannot_write() {
 }
 
 fn cannot_read() {
-    io::write_all(
-        STDERR_FILENO,
-        b"report: standard input cannot be read\n",
-    );
+    io::write_all(STDERR_FILENO, b"report: standard input cannot be read\n");
 }
 
 fn put_out(out: &[u8], at: usize) -> bool
