@@ -10,7 +10,7 @@ use lib.Seq.{sets}
 use borrow.Author.Tests.{le-leb, lt-leb}
 use Rattle.octets.specs.Runs.{gets}
 use Rattle.octets.specs.Numbers.{be}
-use Rattle.octets.proofs.RunsLaws.{gets-eq, gets-run, gets-sets, getD-sets-after, length-gets, sets-run}
+use Rattle.octets.proofs.RunsLaws.{gets-eq, gets-run, getD-sets-after, length-gets, sets-run}
 use Rattle.rules.specs.Layout.{mostCells, recordSize, itemSize, mostItems}
 use Rattle.rules.specs.Record.{itemCount}
 use Rattle.lines.specs.Framing.{countSize, cellsNamed, ownSize, frameOf}
@@ -67,9 +67,3 @@ moved-more b c from i e =
     let n : length (gets b from i) ≡ i = length-gets i b from in
     let g : getD c (from + i) 0 ≡ getD b (from + i) 0 = rw e (getD-sets-after (gets b from i) b 0 (from + i) (omega arith)) in
     rw (g, e, ← gets-run i b from (from + i) 1 refl) (sets-run (gets b from i) (getD b (from + i) 0 ∷ []) b 0 i (omega arith))
-
-pub moved-all : (b c : List ℕ) (from i : ℕ) → c ≡ sets b 0 (gets b from i) → i ≤ length b → gets c 0 i ≡ gets b from i
-moved-all b c from i e h =
-    let n : length (gets b from i) ≡ i = length-gets i b from in
-    let g : gets (sets b 0 (gets b from i)) 0 (length (gets b from i)) ≡ gets b from i = gets-sets (gets b from i) b 0 (omega arith) in
-    rw e (rw n at g)

@@ -31,7 +31,7 @@ count-stays : (held more : List ℕ) → recordSize ≤ length held → itemCoun
 unfolding fieldOf
 count-stays held more h = rw (numbers-append recordFields held more (omega (arith, record-size)))
 
-own-least : (l : List ℕ) → recordSize ≤ ownSize l
+pub own-least : (l : List ℕ) → recordSize ≤ ownSize l
 unfolding ownSize
 own-least l =
     by-test (leb recordSize (length l) && leb (itemCount l) mostItems) (λ (e : (leb recordSize (length l) && leb (itemCount l) mostItems) ≡ true). rw e (omega arith))

@@ -3,3 +3,4 @@ pub mod LineLaws
 pub mod FrameLaws
 pub mod Framed
 pub mod Spelt
+pub mod Once

@@ -2,6 +2,7 @@
 ghost use mathlib.Core.Path.{_≡_};
 ghost use Prim.Native.Nat.{_+_, _-_, _≤_};
 ghost use lib.ListN.{length};
+ghost use lib.Seq.{sets};
 ghost use Rattle.octets.specs.Runs.{gets};
 ghost use Rattle.rules.specs.Layout.{mostCells};
 ghost use Rattle.lines.specs.Framing.{countSize, cellsNamed, ownSize, frameOf};
@@ -53,11 +54,11 @@ pub fn frame(held: &[u8], ended: bool) -> usize
     0
 }
 
-// Moves the bytes from one index up to another to the front of the buffer; what is behind them is of no more use.
+// Moves the bytes from one index up to another to the front of the buffer; those behind them stay.
 pub fn settle(buffer: &mut [u8], from: usize, to: usize)
     requires { ⌜ from ≤ to ⌝ }
     requires { ⌜ to ≤ length (now buffer) ⌝ }
-    ensures { λ _. ⌜ gets (now (buffer .exit)) 0 (to - from) ≡ gets (now (buffer .entry)) from (to - from) ⌝ }
+    ensures { λ _. ⌜ now (buffer .exit) ≡ sets (now (buffer .entry)) 0 (gets (now (buffer .entry)) from (to - from)) ⌝ }
 {
     let mut i = 0;
     while i < to - from {

@@ -1,3 +1,1 @@
-pub mod ServeLaws
-pub mod Once
-pub mod ExampleHolds
+pub mod GoingLaws

@@ -1,3 +1,1 @@
-pub mod Report
-pub mod Running
-pub mod Example
+pub mod Going

@@ -1,49 +1,32 @@
 // The program "broadcast report": N, N heads and then request records on standard input; what each is told on standard output.
-// Reading and writing stand here; what is done with the bytes is in the other files, each function with its promise.
-mod serve;
-
-ghost use Prim.Native.Nat.{_+_, _-_, _≤_};
+// Only reading and writing stand here, and the loop around them; what is said, and when, is in the crate turns.
+ghost use mathlib.Core.Bool.{false};
+ghost use mathlib.Core.Path.{_≡_};
+ghost use Prim.Native.Nat.{_-_, _≤_, _<_};
 ghost use lib.ListN.{length};
 ghost use Rattle.rules.specs.Layout.{mostCells};
-ghost use Rattle.lines.specs.Framing.{countSize, headsEnd};
-ghost use Rattle.report.specs.Report.{answerRoom, tableSize, mostText};
-ghost use Rattle.report.specs.Running.{Standing};
-use builder::build;
+ghost use Rattle.lines.specs.Framing.{headsEnd};
+ghost use Rattle.turns.specs.Report.{answerRoom, tableSize};
+ghost use Rattle.turns.specs.Serve.{mostText};
+ghost use Rattle.turns.specs.Buffers.{Standing};
+ghost use Rattle.report.specs.Going.{Written, ReadOn};
 use libc::STDERR_FILENO;
 use libc::STDIN_FILENO;
 use libc::STDOUT_FILENO;
-use lines::frame::cells;
-use lines::frame::frame;
 use lines::frame::settle;
-use lines::text::put_no;
-use rules::Answer;
 use rules::layout::ANSWER;
 use rules::layout::CELL;
-use rules::layout::HEAD;
 use rules::layout::HEADER;
 use rules::layout::MOST_CELLS;
 use rules::layout::PLACES;
 use rules::layout::ROW;
-use serve::serve;
+use turns::START;
+use turns::Stand;
+use turns::turn;
 
-// The bytes of N.
-const COUNT: usize = 2;
+// ---- what went wrong outside
 
-// The text of one request is never longer: a first line of 25 letters and 38 for each place of each cell (specs/Report, mostText).
-const MOST_TEXT: usize = 25 + 38 * PLACES * MOST_CELLS;
-
-// The bytes at hand in the input buffer, the end of the text that is not yet written, and whether there is more to do.
-pub struct Window {
-    pub from: usize,
-    pub to: usize,
-    pub at: usize,
-    pub ended: bool,
-    pub stops: bool,
-}
-
-// ---- reading and writing
-
-// A program has no exit status here: a line on standard error says what went wrong outside of it.
+// A program has no exit status here: a line on standard error says it.
 fn cannot_write() {
     io::write_all(
         STDERR_FILENO,
@@ -55,207 +38,101 @@ fn cannot_read() {
     io::write_all(STDERR_FILENO, b"report: standard input cannot be read\n");
 }
 
+// ---- writing and reading
+
 fn put_out(out: &[u8], at: usize) -> bool
     requires { ⌜ at ≤ length (now out) ⌝ }
 {
     io::write_all(STDOUT_FILENO, &out[..at])
 }
 
-// Whether the text went out.
-fn flush(out: &[u8], at: usize) -> bool
-    requires { ⌜ at ≤ length (now out) ⌝ }
+// The text is written, and the next one begins at the front. With nobody left to tell, the program stops.
+fn write_text(s: Stand, out: &[u8]) -> Stand
+    requires { ⌜ s .at ≤ length (now out) ⌝ }
+    ensures { λ r. ⌜ Written s r ⌝ }
 {
-    let written = put_out(out, at);
-    if !written {
+    let sound = put_out(out, s.at);
+    if !sound {
         cannot_write();
     }
-    written
+    Stand {
+        cells: s.cells,
+        from: s.from,
+        to: s.to,
+        at: 0,
+        ended: s.ended,
+        waits: s.waits,
+        stops: s.stops | !sound,
+        writes: false,
+    }
 }
 
-// Moves what is left to the front and reads once behind it: how much is there now. No more than before: the input has ended.
-fn more(input: &mut [u8], from: usize, to: usize) -> usize
-    requires { ⌜ from ≤ to ⌝ }
-    requires { ⌜ to ≤ length (now input) ⌝ }
-    ensures { λ r. ⌜ to - from ≤ r ⌝ }
-    ensures { λ r. ⌜ r ≤ length (now (input .exit)) ⌝ }
+// Moves what is left to the front and reads once behind it. Nothing more: the input has ended.
+fn read_on(s: Stand, input: &mut [u8]) -> Stand
+    requires { ⌜ s .from ≤ s .to ⌝ }
+    requires { ⌜ s .to ≤ length (now input) ⌝ }
+    requires { ⌜ s .to - s .from < length (now input) ⌝ }
+    ensures { λ r. ⌜ ReadOn s (length (now (input .exit))) r ⌝ }
 {
+    let from = s.from;
+    let to = s.to;
     settle(input, from, to);
     let kept = to - from;
     let got = libc::read(STDIN_FILENO, &mut input[kept..]);
     if got < 0 {
         cannot_read();
     }
-    kept + io::count(got, &input[kept..])
-}
-
-// Reads until so many bytes are at hand or the input has ended: how many there are.
-fn gather(input: &mut [u8], held: usize, want: usize) -> usize
-    requires { ⌜ held ≤ length (now input) ⌝ }
-    ensures { λ r. ⌜ r ≤ length (now (input .exit)) ⌝ }
-{
-    let mut have = held;
-    while have < want {
-        let next = more(input, 0, have);
-        if next == have {
-            return have;
-        }
-        have = next;
-    }
-    have
-}
-
-// ---- requests
-
-// Nothing to take: the text is written before the next read may have to wait.
-fn read_on(w: Window, input: &mut [u8], out: &[u8]) -> Window
-    requires { ⌜ Standing w (length (now input)) (length (now out)) ⌝ }
-    ensures { λ r. ⌜ Standing r (length (now (input .exit))) (length (now (out .entry))) ⌝ }
-{
-    let from = w.from;
-    let to = w.to;
-    let written = flush(out, w.at);
-    if w.ended {
-        return Window {
-            from,
-            to,
-            at: 0,
-            ended: true,
-            stops: true,
-        };
-    }
-    let held = more(input, from, to);
-    Window {
+    let more = io::count(got, &input[kept..]);
+    Stand {
+        cells: s.cells,
         from: 0,
-        to: held,
-        at: 0,
-        ended: held == to - from,
-        stops: !written,
+        to: kept + more,
+        at: s.at,
+        ended: more == 0,
+        waits: false,
+        stops: got < 0,
+        writes: false,
     }
 }
 
-// The text is written where the next request's might not fit behind it.
-fn make_room(out: &[u8], end: usize) -> usize
-    requires { ⌜ end ≤ length (now out) ⌝ }
-    requires { ⌜ mostText ≤ length (now out) ⌝ }
-    ensures { λ r. ⌜ r + mostText ≤ length (now (out .entry)) ⌝ }
-{
-    if out.len() - end < MOST_TEXT {
-        flush(out, end);
-        return 0;
-    }
-    end
-}
+// ---- turn after turn
 
-// One request, or more input.
-fn step(w: Window, input: &mut [u8], table: &mut [u8], answer: &mut [u8], out: &mut [u8]) -> Window
-    requires { ⌜ Standing w (length (now input)) (length (now out)) ⌝ }
-    requires { ⌜ length (now answer) ≤ answerRoom mostCells ⌝ }
-    ensures { λ r. ⌜ Standing r (length (now (input .exit))) (length (now (out .exit))) ⌝ }
+// One turn, and what it asks for: its text is written before a read may have to wait.
+fn step(s: Stand, input: &mut [u8], table: &mut [u8], answer: &mut [u8], out: &mut [u8]) -> Stand
+    requires { ⌜ Standing s (length (now input)) (length (now table)) (length (now answer)) (length (now out)) ⌝ }
+    requires { ⌜ headsEnd mostCells ≤ length (now input) ⌝ }
+    ensures { λ r. ⌜ (r .stops ≡ false → Standing r (length (now (input .exit))) (length (now (table .exit))) (length (now (answer .exit))) (length (now (out .exit)))) ⌝ }
 {
-    let from = w.from;
-    let to = w.to;
-    let size = frame(&input[from..to], w.ended);
-    if size == 0 {
-        return read_on(w, input, out);
+    let told = turn(s, input, table, answer, out);
+    if !told.writes {
+        return told;
     }
-    let next = from + size;
-    let turn = serve(table, &input[from..next], answer, out, w.at);
-    Window {
-        from: next,
-        to,
-        at: make_room(out, turn.end),
-        ended: w.ended,
-        stops: turn.stops,
+    let next = write_text(told, out);
+    if next.stops {
+        return next;
     }
+    if !next.waits {
+        return next;
+    }
+    read_on(next, input)
 }
 
 // A proved loop has to end, and nothing says that the input does. So it counts its turns down, from a number that no run uses up.
-fn all_requests(
-    start: Window,
-    input: &mut [u8],
-    table: &mut [u8],
-    answer: &mut [u8],
-    out: &mut [u8],
-)
-    requires { ⌜ Standing start (length (now input)) (length (now out)) ⌝ }
-    requires { ⌜ length (now answer) ≤ answerRoom mostCells ⌝ }
-{
-    let mut w = start;
-    let mut turns = u64::MAX;
-    while 0 < turns {
-        if w.stops {
-            break;
-        }
-        w = step(w, input, table, answer, out);
-        turns -= 1;
-    }
-    flush(out, w.at);
-}
-
-// ---- the table
-
-fn refuse(out: &mut [u8], number: u32)
-    requires { ⌜ mostText ≤ length (now out) ⌝ }
-{
-    let end = put_no(out, 0, number);
-    flush(out, end);
-}
-
-// The heads end at an index of the input, and the buffers have the size that the table asks for.
-fn with_heads(
-    input: &mut [u8],
-    heads: usize,
-    held: usize,
-    table: &mut [u8],
-    answer: &mut [u8],
-    out: &mut [u8],
-)
-    requires { ⌜ countSize ≤ heads ⌝ }
-    requires { ⌜ heads ≤ held ⌝ }
-    requires { ⌜ held ≤ length (now input) ⌝ }
-    requires { ⌜ length (now answer) ≤ answerRoom mostCells ⌝ }
-    requires { ⌜ mostText ≤ length (now out) ⌝ }
-{
-    if let Answer::Nothing(refusal) = build(&input[COUNT..heads], table) {
-        return refuse(out, refusal.number());
-    }
-    let start = Window {
-        from: heads,
-        to: held,
-        at: 0,
-        ended: false,
-        stops: false,
-    };
-    all_requests(start, input, table, answer, out);
-}
-
-fn report(input: &mut [u8], table: &mut [u8], answer: &mut [u8], out: &mut [u8])
+fn run(input: &mut [u8], table: &mut [u8], answer: &mut [u8], out: &mut [u8])
     requires { ⌜ headsEnd mostCells ≤ length (now input) ⌝ }
     requires { ⌜ tableSize mostCells ≤ length (now table) ⌝ }
     requires { ⌜ answerRoom mostCells ≤ length (now answer) ⌝ }
     requires { ⌜ mostText ≤ length (now out) ⌝ }
 {
-    let some = gather(input, 0, COUNT);
-    if some < COUNT {
-        return refuse(out, 9);
+    let mut s = START;
+    let mut turns = u64::MAX;
+    while 0 < turns {
+        if s.stops {
+            break;
+        }
+        s = step(s, input, table, answer, out);
+        turns -= 1;
     }
-    let n = cells(input);
-    if n == 0 {
-        return refuse(out, 9);
-    }
-    let heads = COUNT + HEAD * n;
-    let held = gather(input, some, heads);
-    if held < heads {
-        return refuse(out, 9);
-    }
-    with_heads(
-        input,
-        heads,
-        held,
-        &mut table[..HEADER + CELL * n],
-        &mut answer[..ANSWER + ROW * PLACES * n],
-        out,
-    );
 }
 
 fn main() {
@@ -263,5 +140,5 @@ fn main() {
     let mut table = [0; HEADER + CELL * MOST_CELLS];
     let mut answer = [0; ANSWER + ROW * PLACES * MOST_CELLS];
     let mut out = [0; 131072];
-    report(&mut input, &mut table, &mut answer, &mut out);
+    run(&mut input, &mut table, &mut answer, &mut out);
 }

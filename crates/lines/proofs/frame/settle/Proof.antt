@@ -7,7 +7,7 @@ use native.Mathlib.Omega.{arith}
 use lib.ListN.{length, length-set}
 use lib.Seq.{sets}
 use Rattle.octets.specs.Runs.{gets}
-use Rattle.lines.proofs.FrameLaws.{moved-none, moved-more, moved-all}
+use Rattle.lines.proofs.FrameLaws.{moved-none, moved-more}
 use Rattle.lines.proofs.frame.settle.Statement.{statement}
 use Rattle.lines.proofs.frame.settle.Tie as tie
 
@@ -61,7 +61,7 @@ returns c =
     let a = c .before .before .args in
     let l = c .before .loop in
     let e : l .i ≡ a .to - a .from = omega arith in
-    rw (← e) (moved-all (a .buffer .now) (l .buffer) (a .from) (l .i) (l .inv .stored) (omega arith))
+    rw (← e) (l .inv .stored)
 
 pub settle-spec : {M : Type 1} → statement M
 settle-spec =

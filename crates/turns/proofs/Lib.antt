@@ -1,0 +1,15 @@
+pub mod ServeLaws
+pub mod RequestLaws
+pub mod TurnLaws
+pub mod OpeningLaws
+pub mod StepLaws
+pub mod CutAnywhere
+pub mod StoredLaws
+pub mod OpenLaws
+pub mod ServedLaws
+pub mod WaitLaws
+pub mod TurnedLaws
+pub mod AlwaysSpoken
+pub mod TalkReports
+pub mod ExampleHolds
+pub mod Once
