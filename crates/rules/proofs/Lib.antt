@@ -33,4 +33,5 @@ pub mod ZerosLaws
 pub mod OffsetLaws
 pub mod FieldLaws
 pub mod OnceLaws
+pub mod Once
 pub mod IdentityLaws
