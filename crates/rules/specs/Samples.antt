@@ -132,6 +132,23 @@ middleCancelled =
     sample (one four) (cancels 4 2 16 0 0 []) []
     (leaves (one (text 1 7 5 3 1 4 ++ text 3 7 5 3 1 4 ++ text 4 7 5 3 1 4 ++ free 1)) (answers 2 2 16 1 ++ says 16 1 0))
 
+-- flag 1 and a place free: the new text stands behind the others
+abbrev pub secondText : Sample
+secondText =
+    sample twice (starts 1 5 9 2 3) []
+    (leaves (one (text 4370 7 2 3 2 1 ++ text 5 9 2 3 0 0 ++ free 2)) (answers 1 5 16 1 ++ says 16 0 0))
+
+-- cancel-all of four: one row for the cell
+abbrev pub allCancelled : Sample
+allCancelled = sample (one four) (cancels 2 0 0 0 0 []) [] (leaves (one (free 4)) (answers 2 0 0 1 ++ says 16 0 0))
+
+-- a restart and a failure free every place, and report the cell
+abbrev pub restartFrees : Sample
+restartFrees = sample (one four) (request 3 0 0 0 0 0 0 0 0 0 []) [] (leaves (one (free 4)) (answers 3 0 0 1 ++ says 16 0 0))
+
+abbrev pub failureReports : Sample
+failureReports = sample (one four) (request 4 0 0 0 0 0 0 0 0 0 []) [] (leaves (one (free 4)) (answers 4 0 0 1 ++ says 16 0 0))
+
 -- the zero rules come first: no row even where the same text is live
 abbrev pub zeroRulesFirst : Sample
 zeroRulesFirst = sample twice (starts 0 4370 7 5 0) [] (leaves twice (answers 1 4370 16 0))
@@ -154,7 +171,7 @@ abbrev pub failureSilent : Sample
 failureSilent = sample (one (free 4)) (request 4 0 0 0 0 0 0 0 0 0 []) [] (leaves (one (free 4)) (answers 4 0 0 0))
 
 abbrev pub furtherSamples : List Sample
-furtherSamples = items512 ∷ items513 ∷ sentHeld ∷ areaWithoutItems ∷ fullCellPassed ∷ firstEnds ∷ middleCancelled ∷ zeroRulesFirst ∷ areaZeroNamed ∷ fillingNotNamed ∷ restartReports ∷ failureSilent ∷ []
+furtherSamples = items512 ∷ items513 ∷ sentHeld ∷ areaWithoutItems ∷ fullCellPassed ∷ firstEnds ∷ middleCancelled ∷ secondText ∷ allCancelled ∷ restartFrees ∷ failureReports ∷ zeroRulesFirst ∷ areaZeroNamed ∷ fillingNotNamed ∷ restartReports ∷ failureSilent ∷ []
 
 -- ---- the program's example: two cells, seven requests
 
