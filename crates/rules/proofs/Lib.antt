@@ -27,6 +27,7 @@ pub mod AppliedLaws
 pub mod BuiltLaws
 pub mod AppliedRuns
 pub mod ConvertedLaws
+pub mod VersionsLaws
 pub mod ZerosLaws
 pub mod OffsetLaws
 pub mod FieldLaws
