@@ -12,4 +12,5 @@ pub mod Demand3Chains
 pub mod Demand3Besides
 pub mod Demand3SamplesHold
 pub mod Demand2RefutedHolds
+pub mod CarriedHolds
 pub mod ConversionHolds
