@@ -12,5 +12,6 @@ pub mod Demand3Chains
 pub mod Demand3Besides
 pub mod Demand3SamplesHold
 pub mod Demand2RefutedHolds
+pub mod ItemOrderHolds
 pub mod CarriedHolds
 pub mod ConversionHolds

@@ -28,6 +28,7 @@ pub mod BuiltLaws
 pub mod AppliedRuns
 pub mod ConvertedLaws
 pub mod VersionsLaws
+pub mod ItemsLaws
 pub mod ZerosLaws
 pub mod OffsetLaws
 pub mod FieldLaws
