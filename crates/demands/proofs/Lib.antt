@@ -13,5 +13,6 @@ pub mod Demand3Besides
 pub mod Demand3SamplesHold
 pub mod Demand2RefutedHolds
 pub mod ItemOrderHolds
+pub mod RowOrderHolds
 pub mod CarriedHolds
 pub mod ConversionHolds
