@@ -1,114 +1,142 @@
 -- A converted table broadcasts what it would have under version 1.
--- Call by call: what version 1 accepts does the same to the converted table (rules, ConvertedLaws), and leaves the converted one of what version 1 leaves.
+-- Call by call: accepted or refused, a call does to the converted table what it does under version 1, and leaves what version 1 leaves, converted (rules, VersionsLaws).
 use mathlib.Core.Path.{_≡_, refl, sym, ap, _∙_}
-use mathlib.Core.List.{List, [], _∷_}
-use Prim.Native.Nat.{ℕ, zero, suc, _+_, _*_, _≤_}
+use mathlib.Core.Bool.{true}
+use mathlib.Core.List.{List}
+use Prim.Native.Nat.{ℕ, _≤_}
 use native.Mathlib.Omega.{arith}
-use borrow.Author.Tests.{le-leb, leb-true}
-use lib.ListN.{length, take, drop, replicate}
-use lib.Seq.{sets, drop-at}
+use borrow.Author.Tests.{le-leb, eq-eqb}
+use lib.Dec.{eqb}
+use lib.ListN.{length, take}
 use Rattle.octets.specs.Runs.{Bytes, pieces}
-use Rattle.octets.specs.Numbers.{be}
+use Rattle.octets.specs.Numbers.{be, toBe}
 use Rattle.octets.specs.Fields.{numbers}
-use Rattle.octets.proofs.RunsLaws.{sets-front, take-sets-front}
 use Rattle.rules.specs.Lists.{every, any, zeros, oneOf}
-use Rattle.rules.specs.Layout.{fieldOf, version1, current, headerSize, cellSize}
+use Rattle.rules.specs.Layout.{Version, fieldOf, version1, version2, current}
 use Rattle.rules.specs.Table.{cellCount}
-use Rattle.rules.specs.Record.{oneSecond, requestOf, itemsOf, recordMarked, allowed, kindAllows, areaFits, withinLimits, cancelsNothing}
+use Rattle.rules.specs.Record.{oneSecond, requestOf, itemsOf, renewed, recordMarked, allowed, kindAllows, areaFits, withinLimits, cancelsNothing}
 use Rattle.rules.specs.Answer.{roomFor}
-use Rattle.rules.specs.Refusals.{tableVerdict, requestVerdict, recordVerdict, applyVerdict, convertVerdict}
-use Rattle.rules.specs.Applied.{Filled, Outcome, fill, converted, conversion}
-use Rattle.rules.specs.declared.Refusal.the-variants.{ShortBuffer}
+use Rattle.rules.specs.Refusals.{tableVerdict, requestVerdict, recordVerdict, applyVerdict}
+use Rattle.rules.specs.Applied.{Outcome, converted, outcome, applied}
 use Rattle.rules.specs.declared.Verdict.{Verdict}
 use Rattle.rules.specs.declared.Verdict.the-variants.{Accepted, Refused}
-use Rattle.rules.proofs.VerdictLaws.{then-accepted, unless-accepted, apply-chain, convert-chain}
-use Rattle.rules.proofs.OutcomeLaws.{number-positive, applied-accepted}
-use Rattle.rules.proofs.AppliedLaws.{applied-legal, applied-bytes, applied-count}
-use Rattle.rules.proofs.ConvertedLaws.{converted-cells, converted-legal, length-converted, applied-converted}
-use Rattle.pws.specs.Surface.{filled}
+use Rattle.rules.proofs.VerdictLaws.{apply-chain}
+use Rattle.rules.proofs.OutcomeLaws.{read-accepted, applied-accepted}
+use Rattle.rules.proofs.AppliedLaws.{call-accepted, applied-legal, applied-bytes, applied-count}
+use Rattle.rules.proofs.RecordTrips.{record-accepted}
+use Rattle.rules.proofs.ListsLaws.{and-true}
+use Rattle.rules.proofs.VersionsLaws.{applied-renewed, older-version, older-period, asked-period, carriedOver, applied-alike}
 use Rattle.pws.specs.declared.PwsDone.{PwsDone}
 use Rattle.pws.specs.Promises.{ConvertPromise}
-use Rattle.demands.specs.Demand3.{Call, outcomeIn, runIn}
-use Rattle.demands.specs.Conversion.{Carried, AllAccepted, SameBroadcasts, secondRecord, IsSecond, Conversion}
+use Rattle.demands.specs.Demand3.{Call, Result, outcomeIn, runIn, Chain}
+use Rattle.demands.specs.Conversion.{SentToday, as-it-stands, written-anew, SameCall, Each, none, more, SameBroadcasts, secondRecord, SameSecond, Conversion, EitherWay, RenewedAlike}
 use Rattle.demands.proofs.NumberLaws.{accepted-number}
+use Rattle.demands.proofs.CarriedHolds.{carried-legal, carried}
+use Rattle.demands.proofs.Demand3Chains.{chain-is-run}
+
+-- ---- one call
+
+-- what today's unit gets does to the converted table, and answers, what the call does under version 1
+sent-alike : (t : List ℕ) → Bytes t → tableVerdict version1 t ≡ Accepted → (c d : Call) → SameCall c d → outcomeIn current (converted t) d ≡ carriedOver (outcomeIn version1 t c)
+sent-alike t bytes legal c d s = rw (s .buffer) (go (d .req) (s .req))
+  where
+    go : (r : List ℕ) → SentToday (c .req) r → applied current (converted t) r (c .answer) ≡ carriedOver (outcomeIn version1 t c)
+    go r (as-it-stands older same) = rw same (applied-alike t bytes legal (c .req) (c .answer) (c .are-bytes) older)
+    go r (written-anew v p same) =
+        rw (same, applied-renewed (c .req) (rw v) (rw v p) (converted t) (c .answer)) (applied-alike t bytes legal (c .req) (c .answer) (c .are-bytes) (λ e. omega (arith, v, e)))
+
+-- a call leaves a legal table of as many cells, accepted or refused
+record StillLegal (t : List ℕ) (c : Call) : Type 0 where
+  bytes : Bytes (outcomeIn version1 t c .table)
+  legal : tableVerdict version1 (outcomeIn version1 t c .table) ≡ Accepted
+  count : cellCount (outcomeIn version1 t c .table) ≡ cellCount t
+
+still-legal : (t : List ℕ) → Bytes t → tableVerdict version1 t ≡ Accepted → (c : Call) → StillLegal t c
+unfolding applied outcome
+still-legal t bytes legal c = go (applyVerdict version1 t (c .req) (length (c .answer))) refl
+  where
+    go : (v : Verdict) → applyVerdict version1 t (c .req) (length (c .answer)) ≡ v → StillLegal t c
+    go Accepted e =
+        record {
+          bytes = applied-bytes version1 t (c .req) (c .answer) bytes (c .are-bytes) e;
+          legal = applied-legal version1 t (c .req) (c .answer) bytes (c .are-bytes) e;
+          count = applied-count version1 t (c .req) (c .answer) bytes (c .are-bytes) e;
+        }
+    go (Refused x) e = record { bytes = rw e bytes; legal = rw e legal; count = rw e }
 
 -- ---- call by call
 
-broadcasts : (t : List ℕ) → Bytes t → tableVerdict version1 t ≡ Accepted → (cs : List Call) → AllAccepted t cs → SameBroadcasts t cs
+broadcasts : (t : List ℕ) → Bytes t → tableVerdict version1 t ≡ Accepted → (cs ds : List Call) → Each SameCall cs ds → SameBroadcasts t cs (runIn current (converted t) ds)
 unfolding runIn
-broadcasts t bytes legal [] h = record { same-results = refl; same-table = refl }
-broadcasts t bytes legal (c ∷ cs) h =
-    let e = applied-accepted version1 t (c .req) (c .answer) (h .0) in
-    let o = applied-converted t bytes legal (c .req) (c .answer) (c .are-bytes) (h .0) in
-    let rest = broadcasts (outcomeIn version1 t c .table) (applied-bytes version1 t (c .req) (c .answer) bytes (c .are-bytes) e) (applied-legal version1 t (c .req) (c .answer) bytes (c .are-bytes) e) cs (h .1) in
+broadcasts t bytes legal cs ds none = record { same-results = refl; same-table = refl }
+broadcasts t bytes legal cs ds (more {c} {d} {cs = cs′} {ds = ds′} s rest) =
+    let o = sent-alike t bytes legal c d s in
+    let l = still-legal t bytes legal c in
+    let b = broadcasts (outcomeIn version1 t c .table) (l .bytes) (l .legal) cs′ ds′ rest in
     record {
-      same-results = rw (o, rest .same-results);
-      same-table = ap (λ (x : Outcome). runIn current (x .table) cs .0) o ∙ rest .same-table;
+      same-results = rw (o, b .same-results);
+      same-table = ap (λ (x : Outcome). runIn current (x .table) ds′ .0) o ∙ b .same-table;
     }
 
 -- ---- seconds
 
 -- computed
-record-of-second : (recordVerdict version1 secondRecord ≡ Accepted) × (requestOf secondRecord .kind ≡ oneSecond)
+record-of-second : (recordVerdict version1 (secondRecord version1) ≡ Accepted) × (requestOf (secondRecord version1) .kind ≡ oneSecond)
 unfolding recordVerdict requestVerdict recordMarked requestOf itemsOf kindAllows areaFits withinLimits cancelsNothing allowed zeros oneOf any every fieldOf numbers be pieces
 record-of-second = (refl, refl)
 
+second-renewed : secondRecord version2 ≡ renewed (secondRecord version1)
+unfolding renewed toBe
+second-renewed = refl
+
+second-sent : (r s : List ℕ) (v : Version) → r ≡ secondRecord version1 → s ≡ secondRecord v → SentToday r s
+second-sent r s version1 p q = as-it-stands (λ e. omega (arith, rw p at e, older-version (secondRecord version1) (record-of-second .0))) (q ∙ sym p)
+second-sent r s version2 p q =
+    written-anew (rw p (older-version (secondRecord version1) (record-of-second .0))) (rw p (older-period (secondRecord version1) (record-of-second .0))) (q ∙ second-renewed ∙ ap renewed (sym p))
+
 -- version 1 accepts the record of a second, and so the call wherever there is room
-second-accepted : (t : List ℕ) → tableVerdict version1 t ≡ Accepted → (c : Call) → IsSecond c → roomFor oneSecond (cellCount t) ≤ length (c .answer)
-    → applyVerdict version1 t (c .req) (length (c .answer)) ≡ Accepted
+second-accepted : (t : List ℕ) → tableVerdict version1 t ≡ Accepted → (c : Call) → c .req ≡ secondRecord version1 → roomFor oneSecond (cellCount t) ≤ length (c .answer)
+    → outcomeIn version1 t c .number ≡ 0
 second-accepted t legal c s room =
-    rw (apply-chain version1 t (c .req) (length (c .answer)), legal, s, record-of-second .0, record-of-second .1, le-leb (roomFor oneSecond (cellCount t)) (length (c .answer)) room)
+    accepted-number version1 t (c .req) (c .answer) (rw (apply-chain version1 t (c .req) (length (c .answer)), legal, s, record-of-second .0, record-of-second .1, le-leb (roomFor oneSecond (cellCount t)) (length (c .answer)) room))
 
-all-seconds : (n : ℕ) (t : List ℕ) → Bytes t → tableVerdict version1 t ≡ Accepted → (c : Call) → IsSecond c → roomFor oneSecond (cellCount t) ≤ length (c .answer)
-    → AllAccepted t (replicate n c)
-all-seconds zero t bytes legal c s room = tt
-all-seconds (suc n) t bytes legal c s room =
-    let e = second-accepted t legal c s room in (
-      accepted-number version1 t (c .req) (c .answer) e,
-      all-seconds n (outcomeIn version1 t c .table) (applied-bytes version1 t (c .req) (c .answer) bytes (c .are-bytes) e) (applied-legal version1 t (c .req) (c .answer) bytes (c .are-bytes) e) c s (rw (applied-count version1 t (c .req) (c .answer) bytes (c .are-bytes) e) room),
-    )
+seconds-sent : {n : ℕ} {cs ds : List Call} → Each (SameSecond n) cs ds → Each SameCall cs ds
+seconds-sent none = none
+seconds-sent (more {c} {d} s rest) = more (record { req = second-sent (c .req) (d .req) (s .version) (s .then-sent) (s .now-sent); buffer = s .buffer }) (seconds-sent rest)
 
--- ---- the converter's answer
+seconds-accepted : (t : List ℕ) → Bytes t → tableVerdict version1 t ≡ Accepted → {cs ds : List Call} (n : ℕ) → cellCount t ≡ n → Each (SameSecond n) cs ds
+    → every (λ (x : Result). eqb (x .number) 0) (runIn version1 t cs .1) ≡ true
+unfolding runIn every
+seconds-accepted t bytes legal n e none = refl
+seconds-accepted t bytes legal n e (more {c} s rest) =
+    let l = still-legal t bytes legal c in
+    and-true _ _ (eq-eqb _ 0 (second-accepted t legal c (s .then-sent) (rw e (s .room)))) (seconds-accepted (outcomeIn version1 t c .table) (l .bytes) (l .legal) n (l .count ∙ e) rest)
 
-module _ (old table : List ℕ) (bytes : Bytes old) where
-  -- the tests that a call passed which returned 0
-  record Passed : Type 0 where
-    legal : tableVerdict version1 old ≡ Accepted
-    room : headerSize + cellSize current * cellCount old ≤ length table
+-- ---- calls on what the converter left
 
-  passed : convertVerdict old (length table) ≡ Accepted → Passed
-  passed e =
-      let a = then-accepted (tableVerdict version1 old) _ (sym (convert-chain old (length table)) ∙ e) in
-      record { legal = a .0; room = leb-true _ (length table) (unless-accepted _ ShortBuffer (a .1)) }
-
-  of-converted : convertVerdict old (length table) ≡ Accepted → (d : PwsDone) (table′ : List ℕ) → d .length ≡ length (converted old) → table′ ≡ sets table 0 (converted old)
-      → Carried old table d table′
-  of-converted e d table′ n w =
-      let p = passed e in
-      let long = length-converted old bytes (p .legal) in
-      let fits : length (converted old) ≤ length table = omega (arith, p .room) in
-      let whole : take (d .length) table′ ≡ converted old = rw (n, w) (take-sets-front table (converted old) fits) in
-      record {
-        size = n ∙ long;
-        whole = whole;
-        behind = rw (n, w, sets-front table (converted old) fits) (drop-at (converted old) (drop (length (converted old)) table) (length (converted old)) refl);
-        legal = rw whole (converted-legal old bytes (p .legal));
-        same-cells = rw whole (converted-cells old bytes (p .legal));
-      }
-
-  of-filled : (v : Verdict) → v ≡ convertVerdict old (length table) → (d : PwsDone) (table′ : List ℕ) → filled d table′ ≡ fill v (converted old) table → d .number ≡ 0 → Carried old table d table′
-  unfolding fill
-  of-filled Accepted e d table′ p z = of-converted (sym e) d table′ (ap (λ (f : Filled). f .length) p) (ap (λ (f : Filled). f .buffer) p)
-  of-filled (Refused x) e d table′ p z = let n = ap (λ (f : Filled). f .number) p in absurd (omega (arith, number-positive x))
-
-carried : (old table : List ℕ) → Bytes old → (d : PwsDone) (table′ : List ℕ) → ConvertPromise old table d table′ → d .number ≡ 0 → Carried old table d table′
-unfolding conversion
-carried old table bytes d table′ p z = of-filled old table bytes (convertVerdict old (length table)) refl d table′ p z
+promised : (old table : List ℕ) → Bytes old → (d : PwsDone) (table′ : List ℕ) → ConvertPromise old table d table′ → d .number ≡ 0
+    → (cs ds : List Call) → Each SameCall cs ds → (u : List ℕ) (rs : List Result) → Chain (take (d .length) table′) ds u rs → SameBroadcasts old cs (u, rs)
+promised old table bytes d table′ p z cs ds same u rs chain =
+    rw (chain-is-run chain, carried old table bytes d table′ p z .whole) (broadcasts old bytes (carried-legal old table d table′ p z) cs ds same)
 
 pub conversion-holds : Conversion
 conversion-holds =
     record {
       carried = carried;
       broadcasts = broadcasts;
-      seconds = λ t bytes legal n c s room. broadcasts t bytes legal (replicate n c) (all-seconds n t bytes legal c s room);
+      promised = promised;
+      seconds = λ t bytes legal cs ds s. (seconds-sent s, seconds-accepted t bytes legal (cellCount t) refl s);
     }
+
+-- ---- what the words of the claim cover
+
+older : (t : List ℕ) (c : Call) → outcomeIn version1 t c .number ≡ 0 → recordVerdict version1 (c .req) ≡ Accepted
+older t c z = call-accepted version1 t (c .req) (length (c .answer)) (applied-accepted version1 t (c .req) (c .answer) z) .req
+
+pub either-way : EitherWay
+either-way t c z = (older-version (c .req) (older t c z), older-period (c .req) (older t c z))
+
+pub renewed-alike : RenewedAlike
+renewed-alike t r a z =
+    let e = read-accepted r z in
+    applied-renewed r (record-accepted current r e .version) (asked-period r e) t a

@@ -9,10 +9,10 @@ use Rattle.octets.specs.Runs.{Bytes}
 use Rattle.octets.proofs.RunsLaws.{length-pieces, sets-front}
 use Rattle.rules.specs.Layout.{current, headerSize, headSize, cellSize, answerSize, rowSize}
 use Rattle.rules.specs.Table.{cellOf, cellBytes, cellCount, cellRuns, cellsOf, tableBytes}
-use Rattle.rules.specs.Record.{requestOf, itemsOf}
+use Rattle.rules.specs.Record.{requestOf, itemsOf, renewed}
 use Rattle.rules.specs.Answer.{Row, answerBytes}
 use Rattle.rules.specs.Refusals.{tableVerdict, applyVerdict}
-use Rattle.rules.specs.Applied.{Outcome, readOf, reading, stepCell, cellAfter, outcome, applied}
+use Rattle.rules.specs.Applied.{Outcome, ReadOutcome, written, readOf, reading, stepCell, cellAfter, outcome, applied}
 use Rattle.rules.specs.declared.Verdict.the-variants.{Accepted}
 use Rattle.rules.proofs.ListsLaws.{by-test}
 use Rattle.rules.proofs.JoinedLaws.{all-at, getD-map}
@@ -25,7 +25,8 @@ use Rattle.rules.proofs.AppliedRuns.{table-of-runs, idle-cells, idle-answer}
 use Rattle.rules.proofs.RenewedLaws.{request-renewed, count-renewed, items-renewed, renewed-same}
 use Rattle.rules.proofs.RecordTrips.{record-accepted}
 use Rattle.rules.proofs.RoundTrips.{write-read, read-write, renewed-accepted}
-use Rattle.demands.specs.Demand2.{cellAt, reached, ruled, rowsOf, TableChanged, Answered, Idle, ReadWrite, AcceptedCall, CallUnit, Served, MeetsDemand2, Demand2}
+use Rattle.record.proofs.Items.{itemAt-itemsOf}
+use Rattle.demands.specs.Demand2.{cellAt, reached, ruled, rowsOf, TableChanged, Answered, Idle, WriteRead, ReadWrite, AcceptedCall, CallUnit, Served, MeetsDemand2, Demand2}
 use Rattle.demands.proofs.Demand2Once.{served-once}
 use Rattle.demands.proofs.NumberLaws.{accepted-number}
 
@@ -147,6 +148,14 @@ once u m t r a bt br e =
     let k = y .accepts e in
     served-once t r a (u t r a) (applied current t r a) (n ∙ sym k) (x .accepted n) (y .accepted k)
 
+-- a record that was written, read
+read-again : WriteRead
+read-again q items buffer f e =
+    let w = write-read q items buffer f e in
+    let bytes = take (written q items buffer .length) (written q items buffer .buffer) in
+    let v = read-accepted bytes (ap (λ (o : ReadOutcome). o .number) (w .reads)) in
+    (w .size, w .reads, w .reads-items, λ k. itemAt-itemsOf bytes v k ∙ ap (λ l. getD l k 0) (w .reads-items))
+
 -- a record that was read, written
 read-back : ReadWrite
 unfolding readOf reading
@@ -159,6 +168,8 @@ read-back r buffer b e h =
       same-bytes = renewed-same r long b;
       same-fields = rw (v, renewed-accepted r a, request-renewed r long, count-renewed r long);
       same-items = items-renewed r long;
+      each-item = itemAt-itemsOf r v;
+      each-renewed = λ k. itemAt-itemsOf (renewed r) (renewed-accepted r a) k ∙ ap (λ l. getD l k 0) (items-renewed r long);
     }
 
 pub demand-2 : Demand2
@@ -167,6 +178,6 @@ demand-2 =
       of-applied = served;
       promised = λ t r a bt br d t′ a′ p. of-promised t r a bt br _ p;
       one-outcome = once;
-      write-read = λ q items buffer f e. let w = write-read q items buffer f e in (w .size, w .reads, w .reads-items);
+      write-read = read-again;
       read-write = read-back;
     }

@@ -12,4 +12,9 @@ pub mod Demand3Chains
 pub mod Demand3Besides
 pub mod Demand3SamplesHold
 pub mod Demand2RefutedHolds
+pub mod ItemOrderHolds
+pub mod RowOrderHolds
+pub mod PrimaryCells
+pub mod PrimaryRunsHolds
+pub mod CarriedHolds
 pub mod ConversionHolds

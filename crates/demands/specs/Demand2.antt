@@ -15,7 +15,7 @@ use Rattle.rules.specs.Reach.{reaches}
 use Rattle.rules.specs.InCell.{inCell, startsNothing}
 use Rattle.rules.specs.Answer.{Row, rowBytes, answerHead}
 use Rattle.rules.specs.Refusals.{tableVerdict, applyVerdict}
-use Rattle.rules.specs.Applied.{Outcome, written, readOf, rowOf, cellRows, applied}
+use Rattle.rules.specs.Applied.{Outcome, written, readOf, itemAt, rowOf, cellRows, applied}
 use Rattle.rules.specs.Sound.{fitRequest}
 use Rattle.rules.specs.declared.Request.{Request}
 use Rattle.rules.specs.declared.Verdict.the-variants.{Accepted}
@@ -98,6 +98,8 @@ WriteRead =
     (written q items buffer .length ≡ recordSize + itemSize * length items)
     × (readOf bytes ≡ record { number = 0; request = q; items = length items })
     × (itemsOf bytes ≡ items)
+    -- `pws_item` gives the k-th of them, and 0 behind the last
+    × ((k : ℕ) → itemAt bytes k ≡ getD items k 0)
 
 -- what was read is written back at the start of any buffer that holds it: the same bytes in the writer's version ..
 pub record ReadBack (r buffer : List ℕ) : Type 0 where
@@ -107,6 +109,9 @@ pub record ReadBack (r buffer : List ℕ) : Type 0 where
   -- .. and say the same if they had not
   pub same-fields : readOf (renewed r) ≡ readOf r
   pub same-items : itemsOf (renewed r) ≡ itemsOf r
+  -- `pws_item` gives the k-th of these items from either, and 0 behind the last
+  pub each-item : (k : ℕ) → itemAt r k ≡ getD (itemsOf r) k 0
+  pub each-renewed : (k : ℕ) → itemAt (renewed r) k ≡ getD (itemsOf r) k 0
 
 abbrev pub ReadWrite : Type 0
 ReadWrite = (r buffer : List ℕ) → Bytes r → readOf r .number ≡ 0 → length r ≤ length buffer → ReadBack r buffer

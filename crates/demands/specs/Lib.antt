@@ -2,6 +2,9 @@ pub mod Contracts
 pub mod Demand1
 pub mod Demand2
 pub mod Demand2Refuted
+pub mod ItemOrder
+pub mod RowOrder
+pub mod PrimaryRuns
 pub mod Demand3
 pub mod Demand3Samples
 pub mod Conversion

@@ -29,6 +29,9 @@ pub mod AppliedLaws
 pub mod BuiltLaws
 pub mod AppliedRuns
 pub mod ConvertedLaws
+pub mod VersionsLaws
+pub mod ItemsLaws
+pub mod RowsLaws
 pub mod ZerosLaws
 pub mod OffsetLaws
 pub mod FieldLaws

@@ -2,10 +2,10 @@
 -- Each goes by the list, or by the truth of one test.
 use mathlib.Core.Path.{_≡_, refl, sym, ap, _∙_}
 use mathlib.Core.Bool.{Bool, true, false, cond, not, _&&_, _||_, false≢true}
-use mathlib.Core.List.{List, [], _∷_, _++_, map, flatMap}
+use mathlib.Core.List.{List, [], _∷_, _++_, map, flatMap, map-append}
 use Prim.Native.Nat.{ℕ, zero, suc, _+_, _≤_, _<_}
 use native.Mathlib.Omega.{arith}
-use lib.ListN.{length, length-append, replicate}
+use lib.ListN.{length, getD, length-append, replicate}
 use borrow.Author.Tests.{eqb-true, eq-eqb}
 use borrow.Author.Tests.{ltb-true, ltb-false}
 use lib.Dec.{eqb}
@@ -97,6 +97,16 @@ any-append f (x ∷ xs) ys p q =
     let h = neither (f x) (any f xs) p in
     rw (h .0, any-append f xs ys (h .1) q)
 
+pub some-append : {A : Type 0} (f : A → Bool) (xs ys : List A) → any f xs ≡ true → any f (xs ++ ys) ≡ true
+unfolding any
+some-append f [] ys p = absurd (false≢true p)
+some-append f (x ∷ xs) ys p = else-or (f x) (any f (xs ++ ys)) (λ n. some-append f xs ys (or-else (f x) (any f xs) p n))
+
+pub some-behind : {A : Type 0} (f : A → Bool) (xs ys : List A) → any f ys ≡ true → any f (xs ++ ys) ≡ true
+unfolding any
+some-behind f [] ys p = p
+some-behind f (x ∷ xs) ys p = else-or (f x) (any f (xs ++ ys)) (λ n. some-behind f xs ys p)
+
 -- what f makes of each: none of the results is meant if no origin is
 pub any-flatMap : {A B : Type 0} (f : A → List B) (g : A → Bool) (h : B → Bool) (xs : List A) → ((x : A) → g x ≡ false → any h (f x) ≡ false) → any g xs ≡ false
     → any h (flatMap f xs) ≡ false
@@ -105,6 +115,22 @@ any-flatMap f g h [] k p = refl
 any-flatMap f g h (x ∷ xs) k p =
     let s = neither (g x) (any g xs) p in
     any-append h (f x) (flatMap f xs) (k x (s .0)) (any-flatMap f g h xs k (s .1))
+
+pub some-at : {A : Type 0} (f : A → Bool) (xs : List A) (k : ℕ) (d : A) → k < length xs → f (getD xs k d) ≡ true → any f xs ≡ true
+unfolding any
+some-at f [] k d h p = absurd (omega arith)
+some-at f (x ∷ xs) zero d h p = rw p
+some-at f (x ∷ xs) (suc k) d h p = else-or (f x) (any f xs) (λ n. some-at f xs k d (omega arith) p)
+
+-- what f makes of one that is meant is meant
+pub some-flatMap : {A B : Type 0} (f : A → List B) (g : A → Bool) (h : B → Bool) (xs : List A) → ((x : A) → g x ≡ true → any h (f x) ≡ true) → any g xs ≡ true
+    → any h (flatMap f xs) ≡ true
+unfolding any flatMap
+some-flatMap f g h [] k p = absurd (false≢true p)
+some-flatMap f g h (x ∷ xs) k p =
+    by-test (g x)
+    (λ t. some-append h (f x) (flatMap f xs) (k x t))
+    (λ t. some-behind h (f x) (flatMap f xs) (some-flatMap f g h xs k (or-else (g x) (any g xs) p t)))
 
 -- ---- what f makes of each, where that is little
 
@@ -153,3 +179,8 @@ pub flatMap-map : {A B C : Type 0} (f : B → List C) (g : A → B) (xs : List A
 unfolding flatMap
 flatMap-map f g [] = refl
 flatMap-map f g (x ∷ xs) = rw (flatMap-map f g xs)
+
+pub map-flatMap : {A B C : Type 0} (g : B → C) (f : A → List B) (xs : List A) → map g (flatMap f xs) ≡ flatMap (λ x. map g (f x)) xs
+unfolding flatMap
+map-flatMap g f [] = refl
+map-flatMap g f (x ∷ xs) = rw (map-append g (f x) (flatMap f xs), map-flatMap g f xs)

@@ -14,16 +14,17 @@ unfoldable pub after : ℕ → Place → Place
 after zero p = p
 after (suc n) p = after n (later p)
 
-record EverySecond (p : Place) : Type 0 where
-  wait : p .wait .0 ≡ 0
-  period : p .period .0 ≡ 1
-  requested : p .requested .0 ≡ 0
+-- due, and without end
+pub record EverySecond (p : Place) : Type 0 where
+  pub wait : p .wait .0 ≡ 0
+  pub period : p .period .0 ≡ 1
+  pub requested : p .requested .0 ≡ 0
 
-due : (p : Place) → EverySecond p → isDue p ≡ true
+pub due : (p : Place) → EverySecond p → isDue p ≡ true
 unfolding isDue
 due p e = rw (e .wait)
 
-goes-on : (p : Place) → EverySecond p → EverySecond (later p)
+pub goes-on : (p : Place) → EverySecond p → EverySecond (later p)
 unfolding withCounts
 goes-on p e =
     record {
@@ -37,7 +38,7 @@ unfolding after
 always zero p e = e
 always (suc n) p e = always n (later p) (goes-on p e)
 
-begins : (q : Request) → isPrimary q ≡ true → EverySecond (newPlace q)
+pub begins : (q : Request) → isPrimary q ≡ true → EverySecond (newPlace q)
 unfolding newPlace
 begins q e = record { wait = refl; period = rw e; requested = rw e }
 

@@ -27,11 +27,11 @@ use Rattle.rules.proofs.SoundPlaceLaws.{fits-at, facts-sound, one-sound
 module _ (v : Version) where
   -- ---- the new place
 
-  record WriteLimits (q : Request) : Type 0 where
+  pub record WriteLimits (q : Request) : Type 0 where
     pub period : q .period .0 ≤ longestPeriod v .0
     pub sib : (firstSib ≤ q .sib) × (q .sib ≤ lastSib)
 
-  write-limits : (q : Request) (items : List ℕ) → withinLimits (longestPeriod v) q items ≡ true → q .kind ≡ writeReplace → WriteLimits q
+  pub write-limits : (q : Request) (items : List ℕ) → withinLimits (longestPeriod v) q items ≡ true → q .kind ≡ writeReplace → WriteLimits q
   unfolding withinLimits
   write-limits q items e k =
       let limits = both _ (every (λ x. ltb x (itemEnd (q .area))) items) e .0 in
