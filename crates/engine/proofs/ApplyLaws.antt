@@ -69,8 +69,6 @@ call-table t r room e = call-accepted current t r room e .table
 pub call-req : (t r : List ℕ) (room : ℕ) → applyVerdict current t r room ≡ Accepted → recordVerdict current r ≡ Accepted
 call-req t r room e = call-accepted current t r room e .req
 
--- ---- the place that is made, as its bytes stand in the record
-
 -- ---- refused
 
 pub refused-applied : (t r a : List ℕ) (x : Refusal) → applyVerdict current t r (length a) ≡ Refused x → outcomeBy (Nothing x) t a ≡ applied current t r a

@@ -1,37 +1,34 @@
--- One outcome only: what a public function of this crate returns and leaves, its arguments settle.
+-- One outcome only: what a public function of this crate returns and leaves, in the table and in the answer, its contract settles.
 -- Each promise is an equation between that and a definition, or a record that has one for each part of it.
-use mathlib.Core.Path.{_≡_}
-use mathlib.Core.Bool.{Bool}
 use mathlib.Core.List.{List}
 use Prim.Native.Nat.{ℕ}
-use lib.Seq.{sets}
+use denote.Ref.{now}
+use Rattle.octets.specs.Settled.{Settles, SettlesResult}
 use Rattle.octets.proofs.Once.{one-outcome}
-use Rattle.rules.specs.Layout.{current}
-use Rattle.rules.specs.Answer.{answerHead}
-use Rattle.rules.specs.Applied.{outcomeBy, applied}
 use Rattle.rules.specs.declared.Answer.{Answer}
-use Rattle.rules.specs.declared.Request.{Request}
 use Rattle.rules.proofs.OnceLaws.{outcome-injective}
-use Rattle.engine.specs.Reach.{namedBy, KeysOf}
-use Rattle.engine.specs.Walk.{WalkOut}
-use Rattle.engine.specs.declared.reach.Naming.{Naming}
+use Rattle.engine.proofs.apply.apply.Reads as apply
+use Rattle.engine.proofs.walk.walk.Reads as walk
+use Rattle.engine.proofs.reach.naming_of.Reads as naming-of
+use Rattle.engine.proofs.reach.named.Reads as named
+use Rattle.engine.proofs.head.put_head.Reads as put-head
 
-pub apply-once : (table req answer : List ℕ) (x y : Answer) (t a u b : List ℕ) → outcomeBy x t a ≡ applied current table req answer
-    → outcomeBy y u b ≡ applied current table req answer → (x ≡ y) × (t ≡ u) × (a ≡ b)
-apply-once table req answer x y t a u b p q = outcome-injective x y t a u b (one-outcome p q)
+pub apply-once : Settles {X = Answer × List ℕ × List ℕ} apply.Learnt (λ κ r e. (r, now (e .0), now (e .1 .1 .0)))
+apply-once κ args r s e f p q i =
+    let all = outcome-injective r s (now (e .0)) (now (e .1 .1 .0)) (now (f .0)) (now (f .1 .1 .0)) (one-outcome p q) in
+    (all .0 i, all .1 i, all .2 i)
 
 -- ---- between this crate's modules
 
-pub walk-once : {table req answer t a u b : List ℕ} {q : Request} {m n : ℕ} → WalkOut table req q answer t a m → WalkOut table req q answer u b n
-    → (t ≡ u) × (a ≡ b) × (m ≡ n)
-walk-once p q = (one-outcome (p .table) (q .table), one-outcome (p .out) (q .out), one-outcome (p .rows) (q .rows))
+pub walk-once : Settles {X = ℕ × List ℕ × List ℕ} walk.Learnt (λ κ r e. (r, now (e .0), now (e .1 .1 .1 .1 .1 .1 .0)))
+walk-once κ args r s e f p q i = (one-outcome (p .rows) (q .rows) i, one-outcome (p .table) (q .table) i, one-outcome (p .out) (q .out) i)
 
-pub naming-once : {area : ℕ} {head : List ℕ} {r s : Naming} → KeysOf area head r → KeysOf area head s → r ≡ s
-naming-once p q = one-outcome (p .keys) (q .keys)
+pub naming-of-once : SettlesResult naming-of.Learnt
+naming-of-once κ args r s e f p q = one-outcome (p .keys) (q .keys)
 
-pub named-once : (s : Naming) (item : ℕ) {a b : Bool} → a ≡ namedBy s item → b ≡ namedBy s item → a ≡ b
-named-once s item = one-outcome
+pub named-once : SettlesResult named.Learnt
+named-once κ args r s e f = one-outcome
 
--- what `put_head` leaves of an answer's buffer
-pub head-once : (answer : List ℕ) (q : Request) (rows : ℕ) {a b : List ℕ} → a ≡ sets answer 0 (answerHead q rows) → b ≡ sets answer 0 (answerHead q rows) → a ≡ b
-head-once answer q rows = one-outcome
+-- of an answer's buffer
+pub put-head-once : Settles put-head.Learnt (λ κ r e. now (e .0))
+put-head-once κ args r s e f = one-outcome

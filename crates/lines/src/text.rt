@@ -11,6 +11,7 @@ use octets::get8;
 use octets::get16;
 use octets::get32;
 use octets::get64;
+use rules::CellIdentity;
 use rules::layout::ANSWER;
 use rules::layout::ANSWER_KIND_AT;
 use rules::layout::CONTENT_IN_ROW_AT;
@@ -76,12 +77,12 @@ fn put_number(out: &mut [u8], at: usize, n: u64, end: u8) -> usize
     at + k + 1
 }
 
-fn put_cell(out: &mut [u8], at: usize, identity: u64) -> usize
+fn put_cell(out: &mut [u8], at: usize, identity: CellIdentity) -> usize
     requires { ⌜ at + (hexPlaces + 1) ≤ length (now out) ⌝ }
-    ensures { λ r. ⌜ Said (now (out .entry)) at (cellText identity) (now (out .exit)) r ⌝ }
+    ensures { λ r. ⌜ Said (now (out .entry)) at (cellText (identity .0)) (now (out .exit)) r ⌝ }
     ensures { λ r. ⌜ r ≤ at + (hexPlaces + 1) ⌝ }
 {
-    put_digits(out, at, HEX_PLACES, identity, 16);
+    put_digits(out, at, HEX_PLACES, identity.0, 16);
     out[at + HEX_PLACES] = b' ';
     at + HEX_PLACES + 1
 }
@@ -122,7 +123,8 @@ fn put_row(out: &mut [u8], at: usize, answer: &[u8], from: usize) -> usize
     ensures { λ r. ⌜ Said (now (out .entry)) at (rowText (rowSaid (gets (now (answer .entry)) from rowSize))) (now (out .exit)) r ⌝ }
     ensures { λ r. ⌜ r ≤ at + longestRow ⌝ }
 {
-    let cell = put_cell(out, at, get64(answer, from));
+    let identity = CellIdentity(get64(answer, from));
+    let cell = put_cell(out, at, identity);
     let next = put_number(
         out,
         cell,

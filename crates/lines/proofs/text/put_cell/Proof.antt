@@ -26,7 +26,7 @@ same-length c = search needs
 returns : tie.Need-returns
 returns c =
     let a = c .before .before .before .before .before .args in
-    (rw (c .before .before .put-digits .ensures) (cell-said (a .identity) (a .out .now) (a .at)), omega arith)
+    (rw (c .before .before .put-digits .ensures) (cell-said (a .identity .0) (a .out .now) (a .at)), omega arith)
 
 pub put-cell-spec : {M : Type 1} → statement M
 put-cell-spec =

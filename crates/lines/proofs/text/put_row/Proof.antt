@@ -1,6 +1,5 @@
 -- `put_row` stores the line of one row: its cell, its count, its content, as the answer's bytes say them.
 use native.Mathlib.Omega.{arith}
-use mathlib.Core.Path.{sym}
 use Rattle.lines.proofs.LineLaws.{row-said, row-told}
 use borrow.Author.Needs.{needs}
 use Rattle.lines.proofs.text.put_row.Statement.{statement}
@@ -42,7 +41,7 @@ same-length c = search needs
 returns : tie.Need-returns
 returns c =
     let a = c .before .before .before .before .before .before .before .before .before .before .before .before .before .before .before .before .before .args in
-    let i = c .before .before .before .before .before .before .before .before .before .before .before .before .before .get64 in
+    let i = c .before .before .before .before .before .before .before .before .before .before .before .before .before .before .get64 in
     let k = c .before .before .before .before .before .before .before .before .get16 in
     let n = c .before .before .before .get32 in
     let w = row-told (a .answer .now) (a .from) (i .result) (k .result) (n .result) (i .ensures) (k .ensures) (n .ensures) in
