@@ -1,6 +1,6 @@
 -- A decimal number reads back: the value of its digits is the number, so no two numbers are printed alike.
 -- Each digit that is split off is the remainder, and the digits before it are those of the quotient.
-use mathlib.Core.Path.{_≡_, refl, sym, ap, _∙_}
+use mathlib.Core.Path.{_≡_, refl}
 use mathlib.Core.Bool.{true, false, cond}
 use mathlib.Core.List.{List, [], _∷_, _++_}
 use Prim.Native.Nat.{ℕ, zero, suc, _+_, _-_, _*_, _/_, _%_, _^_, _≤_, _<_}

@@ -1,16 +1,15 @@
 -- Laws of the report's lines: how long they are, and how one is stored piece by piece.
 -- Digits are stored from the back, so what is left to store is always the digits of what is left of the number.
-use mathlib.Core.Path.{_≡_, refl, sym, ap, _∙_}
-use mathlib.Core.Bool.{cond}
+use mathlib.Core.Path.{_≡_, refl, _∙_}
 use mathlib.Core.List.{List, [], _∷_, _++_}
-use Prim.Native.Nat.{ℕ, zero, suc, _+_, _-_, _*_, _/_, _%_, _≤_, _<_}
+use Prim.Native.Nat.{ℕ, zero, suc, _+_, _-_, _/_, _%_, _≤_, _<_}
 use native.Mathlib.Nat.{add-zero}
 use native.Mathlib.Omega.{arith}
 use lib.ListN.{length, set, length-append}
 use lib.Seq.{sets, set-comm, length-sets}
 use borrow.Author.Tests.{lt-ltb, le-ltb}
 use Rattle.octets.proofs.RunsLaws.{sets-run}
-use Rattle.lines.specs.Text.{glyph, digits, places, decimal, mostPlaces, hexPlaces, numberText, cellText, Said}
+use Rattle.lines.specs.Text.{glyph, digits, places, Said}
 
 -- ---- digits
 

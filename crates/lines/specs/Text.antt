@@ -4,7 +4,7 @@ use mathlib.Core.Bool.{cond}
 use mathlib.Core.List.{List, [], _∷_, _++_, map, flatMap}
 use Prim.Native.Nat.{ℕ, zero, suc, _+_, _-_, _/_, _%_}
 use lib.Dec.{eqb, ltb}
-use lib.ListN.{length, take, drop, getD}
+use lib.ListN.{length, take, drop}
 use lib.Seq.{sets}
 use Rattle.octets.specs.Runs.{pieces}
 use Rattle.rules.specs.Layout.{fieldOf, identityInRow, countInRow, contentInRow, kindInAnswer, answerFields, rowFields, answerSize, rowSize}

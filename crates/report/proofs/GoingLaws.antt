@@ -1,6 +1,6 @@
 -- Where a turn, a write and a read leave the program, the next turn may begin.
 use mathlib.Core.Path.{_≡_, refl, sym, _∙_}
-use mathlib.Core.Bool.{Bool, true, false, _||_}
+use mathlib.Core.Bool.{true, false, _||_}
 use mathlib.Core.List.{List}
 use Prim.Native.Nat.{ℕ, _+_, _-_, _≤_, _<_}
 use native.Mathlib.Omega.{arith}
@@ -11,7 +11,7 @@ use Rattle.rules.specs.Layout.{mostCells}
 use Rattle.rules.proofs.ListsLaws.{neither}
 use Rattle.lines.specs.Framing.{headsEnd}
 use Rattle.turns.specs.Serve.{mostText}
-use Rattle.turns.specs.Buffers.{ToTake, Standing, Turned}
+use Rattle.turns.specs.Buffers.{Standing, Turned}
 use Rattle.turns.specs.declared.Stand.{Stand}
 use Rattle.report.specs.Going.{Written, ReadOn}
 

@@ -1,13 +1,13 @@
 -- A property of each element of a list, with its evidence: from a test of every element, over the pieces of a list of bytes, and to maps that agree.
 -- Each goes by the list.
-use mathlib.Core.Path.{_≡_, refl, ap, _∙_}
-use mathlib.Core.Bool.{Bool, true, _&&_}
-use mathlib.Core.List.{List, [], _∷_, _++_, map, flatMap}
-use Prim.Native.Nat.{ℕ, zero, suc, _+_, _*_, _-_, _≤_, _<_}
+use mathlib.Core.Path.{_≡_, refl}
+use mathlib.Core.Bool.{Bool, true}
+use mathlib.Core.List.{List, [], _∷_, map, flatMap}
+use Prim.Native.Nat.{ℕ, zero, suc, _+_, _*_, _-_, _≤_}
 use native.Mathlib.Nat.{mul-zero, mul-suc, add-comm}
 use native.Mathlib.Omega.{arith}
-use lib.ListN.{length, take, drop, getD, length-append, length-take, length-drop}
-use lib.Seq.{getD-take, getD-drop, length-take-le, take-at, drop-at}
+use lib.ListN.{length, drop, length-append, length-drop}
+use lib.Seq.{length-take-le, take-at, drop-at}
 use Rattle.octets.specs.Runs.{Bytes, pieces}
 use Rattle.octets.specs.Fields.{padded}
 use Rattle.octets.proofs.RunsLaws.{bytes-take, bytes-drop, bytes-append}

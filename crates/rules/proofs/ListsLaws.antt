@@ -1,17 +1,17 @@
 -- Laws of the words for lists, and of tests joined by `&&`, `||` and `cond`.
 -- Each goes by the list, or by the truth of one test.
-use mathlib.Core.Path.{_≡_, refl, sym, ap, _∙_}
+use mathlib.Core.Path.{_≡_, refl, sym}
 use mathlib.Core.Bool.{Bool, true, false, cond, not, _&&_, _||_, false≢true}
 use mathlib.Core.List.{List, [], _∷_, _++_, map, flatMap, map-append}
 use Prim.Native.Nat.{ℕ, zero, suc, _+_, _≤_, _<_}
 use native.Mathlib.Omega.{arith}
 use lib.ListN.{length, getD, length-append, replicate}
-use borrow.Author.Tests.{eqb-true, eq-eqb}
+use borrow.Author.Tests.{eqb-true}
 use borrow.Author.Tests.{ltb-true, ltb-false}
 use lib.Dec.{eqb}
 use lib.Dec.{ltb}
 use Rattle.rules.specs.Lists.{larger}
-use Rattle.rules.specs.Lists.{every, any, those, zeros, oneOf}
+use Rattle.rules.specs.Lists.{every, any, those, zeros}
 
 -- ---- tests
 

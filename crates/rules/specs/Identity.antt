@@ -2,7 +2,6 @@
 use mathlib.Core.Bool.{cond, _&&_}
 use Prim.Native.Nat.{ℕ, _+_, _*_, _/_, _%_, _^_}
 use lib.Dec.{ltb}
-use Rattle.rules.specs.declared.CellIdentity.{CellIdentity}
 use Rattle.rules.specs.declared.MadeIdentity.{MadeIdentity}
 use Rattle.rules.specs.declared.MadeIdentity.the-variants.{Identity, TooLarge}
 

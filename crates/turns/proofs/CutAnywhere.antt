@@ -1,11 +1,10 @@
 -- However an input is cut, the texts joined are the report of the whole: along the turns and reads of `Spoken`, what was said and what
 -- is still to be said of all bytes, those still to come among them, stays the same.
 use mathlib.Core.Path.{_≡_, refl, sym, ap, _∙_}
-use mathlib.Core.Bool.{Bool, true, false, false≢true, cond}
-use mathlib.Core.List.{List, [], _∷_, _++_, flatMap, append-assoc, append-nil}
+use mathlib.Core.Bool.{Bool, true, false, false≢true}
+use mathlib.Core.List.{List, [], _++_, flatMap, append-assoc, append-nil}
 use Prim.Native.Nat.{ℕ}
 use lib.Dec.{eqb}
-use lib.ListN.{drop}
 use borrow.Author.Tests.{eqb-true, eqb-false, ne-eqb}
 use Rattle.rules.proofs.ListsLaws.{by-test}
 use Rattle.turns.specs.Turns.{Program, begun, step, Spoken, stops, goes, reads, finds-the-end}

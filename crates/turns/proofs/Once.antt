@@ -1,6 +1,6 @@
 -- One outcome only: where a turn, or the service of one request, leaves the program and its buffers, its contract settles.
 -- Each promise gives every part of that by an equation.
-use mathlib.Core.Path.{_≡_, sym}
+use mathlib.Core.Path.{_≡_}
 use mathlib.Core.List.{List}
 use Prim.Native.Nat.{ℕ}
 use denote.Ref.{now}

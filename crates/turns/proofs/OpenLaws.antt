@@ -1,13 +1,13 @@
 -- What `open` and its parts find at the front of the bytes at hand, and what they do with it, is the turn that the definition has.
 use mathlib.Core.Path.{_≡_, refl, sym, ap, _∙_}
 use mathlib.Core.Bool.{Bool, true, false, cond, _&&_, _||_}
-use mathlib.Core.List.{List, [], _++_, append-nil}
+use mathlib.Core.List.{List, _++_}
 use Prim.Native.Nat.{ℕ, _+_, _*_, _≤_, _<_}
 use native.Mathlib.Omega.{arith}
 use lib.Dec.{eqb, leb}
 use lib.ListN.{length, take, drop, take-append-drop}
 use lib.Seq.{length-take-le}
-use borrow.Author.Tests.{le-leb, lt-leb, leb-true, leb-false, eqb-true, eqb-false, ne-eqb}
+use borrow.Author.Tests.{le-leb, lt-leb, leb-false, ne-eqb}
 use Rattle.rules.specs.Layout.{headSize}
 use Rattle.rules.specs.Refusals.{numberOf}
 use Rattle.rules.specs.Applied.{Filled, filledBy, built}

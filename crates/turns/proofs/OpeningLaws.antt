@@ -1,9 +1,9 @@
 -- N and the heads: what stands at the front of the bytes at hand stands at the front of the whole input, so the table that is built of
 -- them, or the refusal, is that of the whole.
-use mathlib.Core.Path.{_≡_, refl, sym, ap, _∙_}
-use mathlib.Core.Bool.{Bool, true, false, true≢false, cond, _&&_, _||_}
+use mathlib.Core.Path.{_≡_, refl, ap}
+use mathlib.Core.Bool.{Bool, true, false, true≢false, _&&_, _||_}
 use mathlib.Core.List.{List, [], _∷_, _++_, append-nil}
-use Prim.Native.Nat.{ℕ, zero, suc, _+_, _-_, _*_, _≤_, _<_}
+use Prim.Native.Nat.{ℕ, zero, suc, _+_, _-_, _*_, _≤_}
 use native.Mathlib.Omega.{arith}
 use lib.Dec.{eqb, leb}
 use lib.ListN.{length, take, drop, replicate, length-append, length-drop}
@@ -12,7 +12,7 @@ use borrow.Author.Tests.{eqb-true, ne-eqb, leb-true, le-leb}
 use Rattle.octets.specs.Numbers.{be}
 use Rattle.rules.specs.Layout.{headSize, mostCells}
 use Rattle.rules.specs.Applied.{Filled, built}
-use Rattle.rules.proofs.ListsLaws.{by-test, both, and-true, or-else}
+use Rattle.rules.proofs.ListsLaws.{by-test, both}
 use Rattle.lines.specs.Text.{noText}
 use Rattle.lines.specs.Framing.{countSize, cellsNamed, headsEnd}
 use Rattle.turns.specs.Report.{answerRoom, tableSize, openedSaid, report}

@@ -6,7 +6,7 @@ use Prim.Native.Nat.{ℕ, _*_, _≤_, _<_}
 use native.Mathlib.Omega.{arith}
 use lib.Dec.{eqb}
 use lib.ListN.{take, drop}
-use borrow.Author.Tests.{eqb-true, eqb-false}
+use borrow.Author.Tests.{eqb-false}
 use Rattle.rules.specs.Layout.{current, headSize}
 use Rattle.rules.specs.Applied.{Filled, Outcome, built, applied}
 use Rattle.rules.proofs.ListsLaws.{by-test}

@@ -8,15 +8,14 @@ use native.Mathlib.Omega.{arith}
 use native.Mathlib.Nat.{sub-zero, zero-sub, suc-sub-suc}
 use lib.Dec.{eqb}
 use lib.ListN.{length, take, drop, length-append}
-use lib.Seq.{sets, drop-drop, sets-eq, take-at, length-take-le, take-nil, drop-nil}
-use borrow.Author.Tests.{eq-eqb, ne-eqb, eqb-true, eqb-false}
+use lib.Seq.{sets, drop-drop, sets-eq, take-at, length-take-le, take-nil}
+use borrow.Author.Tests.{ne-eqb, eqb-true, eqb-false}
 use Rattle.octets.proofs.RunsLaws.{take-sets-front}
 use Rattle.rules.proofs.ListsLaws.{by-test}
-use Rattle.turns.specs.Report.{answerRoom, tableSize}
-use Rattle.turns.specs.Turns.{Program, Sized, Step, waiting, step, Spoken}
+use Rattle.turns.specs.Turns.{Program, Sized, Step, step, Spoken}
 use Rattle.turns.specs.Turns.{stops as spoken-stops, goes as spoken-goes, reads as spoken-reads, finds-the-end as spoken-end}
-use Rattle.turns.specs.Buffers.{programIn, heldIn, stepOf, Turned}
-use Rattle.turns.specs.Talk.{Called, emptied, Fed, Talk, stops, goes, writes, reads, finds-the-end, TalkReports}
+use Rattle.turns.specs.Buffers.{programIn, heldIn, stepOf}
+use Rattle.turns.specs.Talk.{Called, Fed, Talk, stops, goes, writes, reads, finds-the-end, TalkReports}
 use Rattle.turns.specs.declared.Stand.{Stand}
 use Rattle.turns.proofs.StoredLaws.{sets-all}
 use Rattle.turns.proofs.StepLaws.{Does, stopped, waited, went, step-does, still-none}

@@ -1,22 +1,21 @@
 -- One turn changes nothing of what is said in all: what it says, and then what is still to be said of the bytes behind those that it
 -- took, is what was to be said before; of all bytes, those still to come among them.
-use mathlib.Core.Path.{_≡_, refl, sym, ap, _∙_}
-use mathlib.Core.Bool.{Bool, true, false, true≢false, cond, _&&_, _||_}
-use mathlib.Core.List.{List, [], _++_, append-assoc, append-nil}
-use Prim.Native.Nat.{ℕ, zero, suc, _+_, _-_, _*_, _≤_, _<_}
+use mathlib.Core.Path.{_≡_, refl, sym}
+use mathlib.Core.Bool.{Bool, true, false, true≢false, cond}
+use mathlib.Core.List.{List, [], _++_, append-nil}
+use Prim.Native.Nat.{ℕ, _+_, _-_, _≤_, _<_}
 use native.Mathlib.Omega.{arith}
 use lib.Dec.{eqb, leb}
-use lib.ListN.{length, take, drop, replicate, length-append}
-use lib.Seq.{take-append-le, drop-append-le}
-use borrow.Author.Tests.{eq-eqb, eqb-true, eqb-false, ne-eqb, leb-true, leb-false, le-leb}
-use Rattle.rules.specs.Layout.{current, headSize, mostCells}
-use Rattle.rules.specs.Applied.{Filled, Outcome, built, applied}
-use Rattle.rules.proofs.ListsLaws.{by-test, both, or-else}
-use Rattle.lines.specs.Text.{saidOf, noText}
-use Rattle.lines.specs.Framing.{ownSize, countSize, cellsNamed, headsEnd, frameOf, stopsAt}
+use lib.ListN.{length, take, drop, length-append}
+use lib.Seq.{drop-append-le}
+use borrow.Author.Tests.{eqb-true, eqb-false, ne-eqb, leb-true, leb-false}
+use Rattle.rules.specs.Layout.{current}
+use Rattle.rules.specs.Applied.{applied}
+use Rattle.rules.proofs.ListsLaws.{by-test}
+use Rattle.lines.specs.Framing.{ownSize, frameOf}
 use Rattle.lines.proofs.Framed.{frame-stays, record-stays}
-use Rattle.turns.specs.Report.{answerRoom, tableSize, requestsSaid, openedSaid, report}
-use Rattle.turns.specs.Turns.{Program, begun, Step, headsThere, noCells, opened, opens, served, serves, step}
+use Rattle.turns.specs.Report.{requestsSaid, report}
+use Rattle.turns.specs.Turns.{Program, begun, Step, served, serves, step}
 use Rattle.turns.proofs.RequestLaws.{frame-some, said-none, said-first}
 
 -- what is still to be said of the bytes from here on: of all of them, or of the requests alone once there is a table

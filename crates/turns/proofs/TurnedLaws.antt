@@ -12,7 +12,7 @@ use Rattle.rules.specs.Layout.{headSize, mostCells}
 use Rattle.rules.specs.Applied.{Filled, built}
 use Rattle.rules.proofs.ListsLaws.{by-test}
 use Rattle.lines.specs.Text.{noText}
-use Rattle.lines.specs.Framing.{countSize, cellsNamed, headsEnd, frameOf}
+use Rattle.lines.specs.Framing.{countSize, cellsNamed, frameOf}
 use Rattle.turns.specs.Report.{tableSize}
 use Rattle.turns.specs.Serve.{mostText}
 use Rattle.turns.specs.Turns.{Program, waiting, stopping, headsThere, noCells, opened, opens, served, serves, step}

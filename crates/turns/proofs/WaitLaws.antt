@@ -1,12 +1,12 @@
 -- A turn that waits has less at hand than the heads of the largest table: a part of them, or a part of a record, which is shorter.
-use mathlib.Core.Path.{_≡_, sym}
-use mathlib.Core.Bool.{Bool, true, false, false≢true, cond, _&&_, _||_}
-use mathlib.Core.List.{List, []}
+use mathlib.Core.Path.{_≡_}
+use mathlib.Core.Bool.{Bool, true, false, false≢true, _&&_, _||_}
+use mathlib.Core.List.{List}
 use Prim.Native.Nat.{ℕ, _+_, _*_, _≤_, _<_}
 use native.Mathlib.Omega.{arith}
 use lib.Dec.{eqb, leb}
 use lib.ListN.{length, take, drop}
-use borrow.Author.Tests.{eqb-true, eqb-false, le-leb, leb-true, leb-false, ne-eqb}
+use borrow.Author.Tests.{eqb-true, eqb-false, le-leb, leb-true, leb-false}
 use Rattle.rules.specs.Layout.{headSize, mostCells, recordSize, itemSize, mostItems}
 use Rattle.rules.specs.Record.{itemCount}
 use Rattle.rules.specs.Applied.{Filled, built}

@@ -4,7 +4,7 @@ use mathlib.Core.List.{List, [], _++_}
 use Prim.Native.Nat.{ℕ, zero, suc, _+_, _*_}
 use lib.Dec.{eqb, leb}
 use lib.ListN.{length, take, drop, replicate}
-use Rattle.rules.specs.Layout.{current, headerSize, cellSize, headSize, mostCells, placesPerCell, answerSize, rowSize}
+use Rattle.rules.specs.Layout.{current, headerSize, cellSize, headSize, placesPerCell, answerSize, rowSize}
 use Rattle.rules.specs.Applied.{Filled, built, applied}
 use Rattle.lines.specs.Text.{saidOf, noText}
 use Rattle.lines.specs.Framing.{countSize, cellsNamed, headsEnd, frameOf, stopsAt}

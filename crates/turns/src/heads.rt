@@ -7,7 +7,7 @@ ghost use lib.ListN.{length, take};
 ghost use Rattle.rules.specs.Layout.{mostCells};
 ghost use Rattle.rules.specs.Applied.{built};
 ghost use Rattle.lines.specs.Text.{noText};
-ghost use Rattle.lines.specs.Framing.{cellsNamed, headsEnd};
+ghost use Rattle.lines.specs.Framing.{cellsNamed};
 ghost use Rattle.turns.specs.Report.{answerRoom, tableSize};
 ghost use Rattle.turns.specs.Serve.{mostText};
 ghost use Rattle.turns.specs.Buffers.{Stepped, programIn};

@@ -2,7 +2,7 @@
 // around it needs to know nothing of what is said.
 ghost use Prim.Native.Nat.{_-_};
 ghost use lib.ListN.{length};
-ghost use Rattle.turns.specs.Buffers.{Standing, Turned, ToTake, Stepped, heldIn, programIn};
+ghost use Rattle.turns.specs.Buffers.{Standing, Turned, ToTake, Stepped, programIn};
 ghost use Rattle.turns.specs.Turns.{step};
 use heads::open_table;
 use requests::serve_next;

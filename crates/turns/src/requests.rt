@@ -1,7 +1,5 @@
 // A turn once there is a table: the request at the front of the bytes at hand, or nothing yet.
-ghost use Prim.Native.Nat.{_≤_};
 ghost use lib.ListN.{length};
-ghost use mathlib.Core.Bool.{cond};
 ghost use mathlib.Core.Path.{_≡_};
 ghost use Rattle.turns.specs.Buffers.{ToTake, Stepped, programIn};
 ghost use Rattle.turns.specs.Turns.{serves};

@@ -1,12 +1,11 @@
 -- `run` takes turn after turn and stays within its buffers.
 -- The invariant, `Going`: unless it stops, it stands where a turn may begin, and every buffer has kept its length.
-use Prim.Native.Nat.{ℕ, _≤_}
+use Prim.Native.Nat.{ℕ}
 use mathlib.Core.Path.{_≡_, refl, _∙_}
 use mathlib.Core.Bool.{false}
 use mathlib.Core.List.{List}
 use native.Mathlib.Omega.{arith}
 use lib.ListN.{length}
-use borrow.Author.Needs.{needs}
 use Rattle.turns.specs.Buffers.{Standing}
 use Rattle.turns.specs.declared.Stand.{Stand}
 use Rattle.report.proofs.run.Statement.{statement}

@@ -1,7 +1,6 @@
 -- `step` takes a turn, and writes and reads as it asks for.
 use mathlib.Core.Path.{_≡_, sym, _∙_}
 use mathlib.Core.Bool.{true, false, false≢true}
-use native.Mathlib.Omega.{arith}
 use borrow.Author.Tests.{not-true, not-false}
 use Rattle.report.proofs.GoingLaws.{Told, goes-on, writes-on, room-to-read, reads-on}
 use borrow.Author.Needs.{needs}

@@ -1,7 +1,7 @@
 -- `settle` moves bytes to the front of their buffer, one by one and the first first, so that none is lost before it is read.
 -- The invariant, `Moved`: the buffer is the old one with so many of them stored at its front.
 use Prim.Native.Nat.{ℕ, _-_, _≤_}
-use mathlib.Core.Path.{_≡_, refl, _∙_}
+use mathlib.Core.Path.{_≡_, refl}
 use mathlib.Core.List.{List}
 use native.Mathlib.Omega.{arith}
 use lib.ListN.{length, length-set}

@@ -1,9 +1,8 @@
 -- `places` counts decimal digits, ten at most.
 -- The invariant: those found and those that what is left has are the digits of the number, one counted twice.
-use Prim.Native.Nat.{ℕ, _+_, _-_, _/_, _≤_}
-use mathlib.Core.Path.{_≡_, refl, _∙_}
+use Prim.Native.Nat.{ℕ, _+_, _-_, _/_}
+use mathlib.Core.Path.{_≡_, refl}
 use native.Mathlib.Omega.{arith}
-use borrow.Author.Needs.{needs}
 use Rattle.lines.specs.Text.{places}
 use Rattle.lines.proofs.TextLaws.{places-done, places-more, places-none}
 use Rattle.lines.proofs.text.places.Statement.{statement}

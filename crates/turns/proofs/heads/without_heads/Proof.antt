@@ -1,5 +1,4 @@
 -- `without_heads` waits, or stops with "no 9".
-use mathlib.Core.Path.{sym}
 use Rattle.turns.proofs.OpenLaws.{waiting-stepped}
 use borrow.Author.Needs.{needs}
 use Rattle.turns.proofs.heads.without_heads.Statement.{statement}

@@ -1,6 +1,5 @@
 -- `serve` applies a request and tells of it: an answer that was written lies in its buffer, so all of it can be told.
 use mathlib.Core.Path.{_≡_, sym}
-use Prim.Native.Nat.{_≤_}
 use lib.ListN.{length, take}
 use lib.Seq.{length-take-le}
 use native.Mathlib.Omega.{arith}
