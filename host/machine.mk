@@ -8,6 +8,10 @@ NATIVE_CXX := $(CXX)
 REPORT = target/bin/report
 SANITIZE = address,undefined
 QUICK = --quick
+# Nothing is emulated or cross-built, whatever the environment says.
+RUN =
+TRIPLE =
+CROSS_CARGO =
 
 ifneq ($(MACHINE),x86_64)
 TRIPLE = x86_64-unknown-linux-gnu
