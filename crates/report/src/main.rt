@@ -20,8 +20,8 @@ use rules::layout::HEADER;
 use rules::layout::MOST_CELLS;
 use rules::layout::PLACES;
 use rules::layout::ROW;
-use turns::START;
 use turns::Stand;
+use turns::start;
 use turns::turn;
 
 // ---- what went wrong outside
@@ -124,7 +124,7 @@ fn run(input: &mut [u8], table: &mut [u8], answer: &mut [u8], out: &mut [u8])
     requires { ⌜ answerRoom mostCells ≤ length (now answer) ⌝ }
     requires { ⌜ mostText ≤ length (now out) ⌝ }
 {
-    let mut s = START;
+    let mut s = start();
     let mut turns = u64::MAX;
     while 0 < turns {
         if s.stops {

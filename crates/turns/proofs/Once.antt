@@ -4,13 +4,14 @@ use mathlib.Core.Path.{_≡_}
 use mathlib.Core.List.{List}
 use Prim.Native.Nat.{ℕ}
 use denote.Ref.{now}
-use Rattle.octets.specs.Settled.{Settles}
+use Rattle.octets.specs.Settled.{Settles, SettlesResult}
 use Rattle.octets.proofs.Once.{one-outcome}
 use Rattle.turns.specs.Serve.{Served}
 use Rattle.turns.specs.Buffers.{Turned}
 use Rattle.turns.specs.declared.serve.Turn.{Turn}
 use Rattle.turns.specs.declared.Stand.{Stand}
 use Rattle.turns.proofs.serve.serve.Reads as serve
+use Rattle.turns.proofs.start.Reads as start
 use Rattle.turns.proofs.turn.Reads as turn
 
 served-once : {t r a out : List ℕ} {at : ℕ} {t₁ a₁ out₁ t₂ a₂ out₂ : List ℕ} {x y : Turn} → Served t r a out at t₁ a₁ out₁ x → Served t r a out at t₂ a₂ out₂ y
@@ -49,3 +50,6 @@ turned-once {x} {y} p q i =
 
 pub turn-once : Settles {X = Stand × List ℕ × List ℕ × List ℕ} turn.Learnt (λ κ r e. (r, now (e .1 .1 .0), now (e .1 .1 .1 .0), now (e .1 .1 .1 .1 .0)))
 turn-once κ args r s e f = turned-once
+
+pub start-once : SettlesResult start.Learnt
+start-once κ args r s e f = one-outcome

@@ -40,7 +40,7 @@ pub data Talk : Stand → (input t a out : List ℕ) → List (List ℕ) → Lis
   finds-the-end : {s s' s″ : Stand} {input t a out t' a' out' input' : List ℕ} {text : List ℕ} → Called s input t a out s' t' a' out' → s' .waits ≡ true
       → Fed s' input [] true s″ input' → Talk s″ input' t' a' out' [] text → Talk s input t a out [] (take (s' .at) out' ++ text)
 
--- nothing has come in yet (START)
+-- nothing has come in yet
 abbrev pub started : Stand
 started =
     record { cells = 0; from = 0; to = 0; at = 0; ended = false; waits = false; stops = false; writes = false }

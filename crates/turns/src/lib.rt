@@ -1,8 +1,9 @@
 // The program "broadcast report" between its reads and its writes: one turn over the bytes at hand, so that whoever reads and writes
 // around it needs to know nothing of what is said.
-ghost use Prim.Native.Nat.{_-_};
+ghost use mathlib.Core.Path.{_≡_};
 ghost use lib.ListN.{length};
 ghost use Rattle.turns.specs.Buffers.{Standing, Turned, ToTake, Stepped, programIn};
+ghost use Rattle.turns.specs.Talk.{started};
 ghost use Rattle.turns.specs.Turns.{step};
 use heads::open_table;
 use requests::serve_next;
@@ -40,16 +41,20 @@ pub struct Took {
 const MOST_TEXT: usize = 25 + 38 * PLACES * MOST_CELLS;
 
 // Nothing has come in yet.
-pub const START: Stand = Stand {
-    cells: 0,
-    from: 0,
-    to: 0,
-    at: 0,
-    ended: false,
-    waits: false,
-    stops: false,
-    writes: false,
-};
+pub fn start() -> Stand
+    ensures { λ r. ⌜ r ≡ started ⌝ }
+{
+    Stand {
+        cells: 0,
+        from: 0,
+        to: 0,
+        at: 0,
+        ended: false,
+        waits: false,
+        stops: false,
+        writes: false,
+    }
+}
 
 fn one_turn(
     held: &[u8],

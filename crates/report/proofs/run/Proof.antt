@@ -6,6 +6,7 @@ use mathlib.Core.Bool.{false}
 use mathlib.Core.List.{List}
 use native.Mathlib.Omega.{arith}
 use lib.ListN.{length}
+use borrow.Author.Needs.{needs}
 use Rattle.turns.specs.Buffers.{Standing}
 use Rattle.turns.specs.declared.Stand.{Stand}
 use Rattle.report.proofs.run.Statement.{statement}
@@ -24,15 +25,19 @@ Inv-loop input₀ table₀ answer₀ out₀ s₀ turns₀ input table answer out
 abbrev μ-loop : tie.MeasureT-loop
 μ-loop input₀ table₀ answer₀ out₀ s₀ turns₀ input table answer out s turns = turns
 
+start-requires : tie.Need-start-requires Inv-loop μ-loop
+start-requires c κs = search needs
+
 loop-holds : tie.Need-loop-holds Inv-loop μ-loop
 loop-holds c =
-    let p = c .before .before .before .before .pre in
+    let p = c .before .before .before .before .before .pre in
     record {
-      stands = λ _. record {
-        order = omega arith;
-        within = omega arith;
-        to-take = record { few = omega arith; table-room = p .1 .0; answer-room = p .1 .1 .0; text-room = p .1 .1 .1 };
-      };
+      stands = λ _. rw (c .start .ensures)
+          record {
+            order = omega arith;
+            within = omega arith;
+            to-take = record { few = omega arith; table-room = p .1 .0; answer-room = p .1 .1 .0; text-room = p .1 .1 .1 };
+          };
       input-long = refl;
       table-long = refl;
       answer-long = refl;
@@ -42,7 +47,7 @@ loop-holds c =
 step-requires : tie.Need-step-requires Inv-loop μ-loop
 step-requires c κs =
     let i = c .before .before .before .before .before .before .loop .inv in
-    (i .stands (c .before .before .before .before .if1 .left), omega (arith, i .input-long, c .before .before .before .before .before .before .before .before .before .before .before .pre .0))
+    (i .stands (c .before .before .before .before .if1 .left), omega (arith, i .input-long, c .before .before .before .before .before .before .before .before .before .before .before .before .pre .0))
 
 sub-turns : tie.Need-sub-turns Inv-loop μ-loop
 sub-turns c = omega arith
@@ -98,6 +103,7 @@ run-spec =
     (tie.spec
     Inv-loop
     μ-loop
+    start-requires
     loop-holds
     step-requires
     sub-turns
