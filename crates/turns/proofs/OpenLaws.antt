@@ -1,7 +1,7 @@
 -- What `open` and its parts find at the front of the bytes at hand, and what they do with it, is the turn that the definition has.
 use mathlib.Core.Path.{_≡_, refl, sym, ap, _∙_}
 use mathlib.Core.Bool.{Bool, true, false, cond, _&&_, _||_}
-use mathlib.Core.List.{List, _++_}
+use mathlib.Core.List.{List, [], _++_}
 use Prim.Native.Nat.{ℕ, _+_, _*_, _≤_, _<_}
 use native.Mathlib.Omega.{arith}
 use lib.Dec.{eqb, leb}
@@ -52,36 +52,29 @@ none-short l h = rw (lt-leb countSize (length l) h)
 
 -- ---- no table
 
-module _ (p : Program) (none : p .cells ≡ 0) (out out' : List ℕ) (at end : ℕ) where
-  pub stopping-stepped : (number : ℕ) → Said out at (noText number) out' end → end ≤ at + mostText
-      → Stepped (stopping (noText number) p) (p .table) (p .answer) out at (record { cells = 0; bytes = 0; end = end; waits = false; stops = true }) (p .table) (p .answer) out'
-  stopping-stepped number s m =
-      record {
-        cells = sym none;
-        bytes = refl;
-        waits = refl;
-        stops = refl;
-        text = s;
-        table = sym (sets-all (p .table));
-        answer = sym (sets-all (p .answer));
-        sized = λ (some : p .cells ≡ 0 → ⊥). absurd (some none);
-        most = m;
-      }
-
-pub waiting-stepped : (p : Program) → p .cells ≡ 0 → (out : List ℕ) (at : ℕ)
-    → Stepped (waiting p) (p .table) (p .answer) out at (record { cells = 0; bytes = 0; end = at; waits = true; stops = false }) (p .table) (p .answer) out
-waiting-stepped p none out at =
+-- nothing is taken, and the buffers are as they were
+none-stepped : (p : Program) → p .cells ≡ 0 → (out out' : List ℕ) (at end : ℕ) (text : List ℕ) (waits stops : Bool) → Said out at text out' end → end ≤ at + mostText
+    → Stepped (record { said = text; program = p; taken = 0; waits = waits; stops = stops }) (p .table) (p .answer) out at (record { cells = 0; bytes = 0; end = end; waits = waits; stops = stops }) (p .table) (p .answer) out'
+none-stepped p none out out' at end text waits stops s m =
     record {
       cells = sym none;
       bytes = refl;
       waits = refl;
       stops = refl;
-      text = record { stored = refl; ends = omega arith };
+      text = s;
       table = sym (sets-all (p .table));
       answer = sym (sets-all (p .answer));
       sized = λ (some : p .cells ≡ 0 → ⊥). absurd (some none);
-      most = omega arith;
+      most = m;
     }
+
+pub stopping-stepped : (p : Program) → p .cells ≡ 0 → (out out' : List ℕ) (at end number : ℕ) → Said out at (noText number) out' end → end ≤ at + mostText
+    → Stepped (stopping (noText number) p) (p .table) (p .answer) out at (record { cells = 0; bytes = 0; end = end; waits = false; stops = true }) (p .table) (p .answer) out'
+stopping-stepped p none out out' at end number = none-stepped p none out out' at end (noText number) false true
+
+pub waiting-stepped : (p : Program) → p .cells ≡ 0 → (out : List ℕ) (at : ℕ)
+    → Stepped (waiting p) (p .table) (p .answer) out at (record { cells = 0; bytes = 0; end = at; waits = true; stops = false }) (p .table) (p .answer) out
+waiting-stepped p none out at = none-stepped p none out out at at [] true false (record { stored = refl; ends = omega arith }) (omega arith)
 
 -- ---- the builder's answer
 

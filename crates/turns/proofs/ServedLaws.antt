@@ -20,32 +20,24 @@ module _ (n : ℕ) (t a out : List ℕ) (at : ℕ) (th : tableSize n ≤ length 
   abbrev program : Program
   program = record { cells = n; table = take (tableSize n) t; answer = take (answerRoom n) a }
 
-  -- at the end of the input there is nothing more to do
+  -- nothing is taken: it waits, or stops at the end of the input
+  idle : (waits stops : Bool) → Stepped (record { said = []; program = program; taken = 0; waits = waits; stops = stops }) t a out at (record { cells = n; bytes = 0; end = at; waits = waits; stops = stops }) t a out
+  idle waits stops =
+      record {
+        cells = refl;
+        bytes = refl;
+        waits = refl;
+        stops = refl;
+        text = record { stored = refl; ends = omega arith };
+        table = sym (sets-take t (tableSize n));
+        answer = sym (sets-take a (answerRoom n));
+        sized = λ some. (length-take-le (tableSize n) t th, length-take-le (answerRoom n) a ah);
+        most = omega arith;
+      }
+
   idle-stepped : (ended : Bool) → Stepped (cond ended (stopping [] program) (waiting program)) t a out at (record { cells = n; bytes = 0; end = at; waits = not ended; stops = ended }) t a out
-  idle-stepped true =
-      record {
-        cells = refl;
-        bytes = refl;
-        waits = refl;
-        stops = refl;
-        text = record { stored = refl; ends = omega arith };
-        table = sym (sets-take t (tableSize n));
-        answer = sym (sets-take a (answerRoom n));
-        sized = λ some. (length-take-le (tableSize n) t th, length-take-le (answerRoom n) a ah);
-        most = omega arith;
-      }
-  idle-stepped false =
-      record {
-        cells = refl;
-        bytes = refl;
-        waits = refl;
-        stops = refl;
-        text = record { stored = refl; ends = omega arith };
-        table = sym (sets-take t (tableSize n));
-        answer = sym (sets-take a (answerRoom n));
-        sized = λ some. (length-take-le (tableSize n) t th, length-take-le (answerRoom n) a ah);
-        most = omega arith;
-      }
+  idle-stepped true = idle false true
+  idle-stepped false = idle true false
 
   module _ (some : n ≡ 0 → ⊥) (l : List ℕ) (ended : Bool) (size : ℕ) (e : size ≡ frameOf l ended) where
     pub nothing-stepped : size ≡ 0
