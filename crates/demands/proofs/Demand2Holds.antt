@@ -25,7 +25,7 @@ use Rattle.rules.proofs.AppliedRuns.{table-of-runs, idle-cells, idle-answer}
 use Rattle.rules.proofs.RenewedLaws.{request-renewed, count-renewed, items-renewed, renewed-same}
 use Rattle.rules.proofs.RecordTrips.{record-accepted}
 use Rattle.rules.proofs.RoundTrips.{write-read, read-write, renewed-accepted}
-use Rattle.record.proofs.Items.{itemAt-itemsOf}
+use Rattle.record_read.proofs.Items.{itemAt-itemsOf}
 use Rattle.demands.specs.Demand2.{cellAt, reached, ruled, rowsOf, TableChanged, Answered, Idle, WriteRead, ReadWrite, AcceptedCall, CallUnit, Served, MeetsDemand2, Demand2}
 use Rattle.demands.proofs.Demand2Once.{served-once}
 use Rattle.demands.proofs.NumberLaws.{accepted-number}

@@ -21,7 +21,7 @@ use Rattle.rules.specs.Applied.{stepCell, cellRows, outcome, outcomeBy, applied
 use Rattle.rules.specs.declared.Request.{Request}
 use Rattle.rules.specs.declared.Refusal.{Refusal}
 use Rattle.rules.specs.declared.Refusal.the-variants.{ShortBuffer}
-use Rattle.rules.specs.declared.Answer.the-variants.{Written, Nothing}
+use Rattle.rules.specs.declared.Writing.the-variants.{Written, Unwritten}
 use Rattle.rules.specs.declared.Verdict.the-variants.{Accepted, Refused}
 use Rattle.rules.proofs.ListsLaws.{both}
 use Rattle.rules.proofs.TableCodec.{table-accepted, table-back}
@@ -31,7 +31,7 @@ use Rattle.rules.proofs.KindAreaLaws.{kind-known}
 use Rattle.rules.proofs.StartLaws.{new-sound}
 use Rattle.rules.proofs.AppliedLaws.{AcceptedCall, call-accepted, record-fits, length-answerHead, length-answerBytes, length-rowBytes, answer-fits, applied-table, applied-answer}
 use Rattle.rules.proofs.AppliedRuns.{applied-by-runs, rows-of-runs, idle-cells, idle-answer}
-use Rattle.routines.specs.Step.{ToStep}
+use Rattle.in_cell.specs.Step.{ToStep}
 use Rattle.engine.specs.Walk.{rowsAfter, tableAfter, isIdle, WalkOut, Granted}
 
 -- ---- the tests
@@ -71,7 +71,7 @@ call-req t r room e = call-accepted current t r room e .req
 
 -- ---- refused
 
-pub refused-applied : (t r a : List ℕ) (x : Refusal) → applyVerdict current t r (length a) ≡ Refused x → outcomeBy (Nothing x) t a ≡ applied current t r a
+pub refused-applied : (t r a : List ℕ) (x : Refusal) → applyVerdict current t r (length a) ≡ Refused x → outcomeBy (Unwritten x) t a ≡ applied current t r a
 unfolding applied outcome
 refused-applied t r a x e = rw e
 

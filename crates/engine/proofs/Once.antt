@@ -5,7 +5,7 @@ use Prim.Native.Nat.{ℕ}
 use denote.Ref.{now}
 use Rattle.octets.specs.Settled.{Settles, SettlesResult}
 use Rattle.octets.proofs.Once.{one-outcome}
-use Rattle.rules.specs.declared.Answer.{Answer}
+use Rattle.rules.specs.declared.Writing.{Writing}
 use Rattle.rules.proofs.OnceLaws.{outcome-injective}
 use Rattle.engine.proofs.apply.apply.Reads as apply
 use Rattle.engine.proofs.walk.walk.Reads as walk
@@ -13,7 +13,7 @@ use Rattle.engine.proofs.reach.naming_of.Reads as naming-of
 use Rattle.engine.proofs.reach.named.Reads as named
 use Rattle.engine.proofs.head.put_head.Reads as put-head
 
-pub apply-once : Settles {X = Answer × List ℕ × List ℕ} apply.Learnt (λ κ r e. (r, now (e .0), now (e .1 .1 .0)))
+pub apply-once : Settles {X = Writing × List ℕ × List ℕ} apply.Learnt (λ κ r e. (r, now (e .0), now (e .1 .1 .0)))
 apply-once κ args r s e f p q i =
     let all = outcome-injective r s (now (e .0)) (now (e .1 .1 .0)) (now (f .0)) (now (f .1 .1 .0)) (one-outcome p q) in
     (all .0 i, all .1 i, all .2 i)

@@ -32,10 +32,10 @@ use Rattle.rules.proofs.StepLaws.{step-reached, rows-reached, rows-unreached}
 use Rattle.rules.proofs.RecordCodec.{length-itemsOf}
 use Rattle.rules.proofs.RecordTrips.{record-accepted}
 use Rattle.rules.proofs.AppliedLaws.{call-accepted}
-use Rattle.cell.specs.Places.{livePlaces, withPlaces}
-use Rattle.cell.proofs.PlacesLaws.{withPlaces-cell}
-use Rattle.routines.specs.Step.{rowsBytes, Ready, Stepped}
-use Rattle.record.proofs.Items.{items-read-next}
+use Rattle.cell_read.specs.Places.{livePlaces, withPlaces}
+use Rattle.cell_read.proofs.PlacesLaws.{withPlaces-cell}
+use Rattle.in_cell.specs.Step.{rowsBytes, Ready, Stepped}
+use Rattle.record_read.proofs.Items.{items-read-next}
 use Rattle.engine.specs.Reach.{namedBy, KeysOf}
 use Rattle.engine.specs.declared.reach.Naming.{Naming}
 use Rattle.engine.specs.Walk.{rowsAfter, tableAfter, WalkIn, SecondIn}

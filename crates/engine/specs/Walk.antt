@@ -15,7 +15,7 @@ use Rattle.rules.specs.Refusals.{applyVerdict}
 use Rattle.rules.specs.Applied.{cellAfter, cellRows, applied}
 use Rattle.rules.specs.declared.Request.{Request}
 use Rattle.rules.specs.declared.Verdict.the-variants.{Accepted}
-use Rattle.routines.specs.Step.{ToStep}
+use Rattle.in_cell.specs.Step.{ToStep}
 
 -- the rows of all cells, in order
 unfoldable pub rowsAfter : Request → List ℕ → List (List ℕ) → List Row

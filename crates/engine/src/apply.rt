@@ -13,20 +13,20 @@ ghost use Rattle.rules.specs.declared.Verdict.the-variants.{Accepted};
 use crate::head::put_head;
 use crate::walk::walk;
 use octets::get16;
-use record::read::count;
-use record::read::request;
-use rules::Answer;
+use record_read::read::count;
+use record_read::read::request;
 use rules::Refusal;
 use rules::Request;
 use rules::Verdict;
+use rules::Writing;
 use rules::kind::ONE_SECOND;
 use rules::kind::WRITE_REPLACE;
 use rules::layout::ANSWER;
 use rules::layout::CELLS_AT;
 use rules::layout::PLACES;
 use rules::layout::ROW;
-use starts::new_bytes;
-use starts::starts_nothing;
+use start::new_bytes;
+use start::starts_nothing;
 
 fn cells_of(table: &[u8]) -> usize
     requires { ⌜ headerSize ≤ length (now table) ⌝ }
@@ -50,10 +50,10 @@ fn room_for(kind: u8, cells: usize) -> usize
 fn verdict(table: &[u8], req: &[u8], room: usize) -> Verdict
     ensures { λ r. ⌜ r ≡ applyVerdict current (now (table .entry)) (now (req .entry)) room ⌝ }
 {
-    if let Verdict::Refused(refusal) = table::verdict(table) {
+    if let Verdict::Refused(refusal) = table_judge::verdict(table) {
         return Verdict::Refused(refusal);
     }
-    if let Verdict::Refused(refusal) = record::read::verdict(req) {
+    if let Verdict::Refused(refusal) = record_read::read::verdict(req) {
         return Verdict::Refused(refusal);
     }
     let fields = request(req);
@@ -97,12 +97,12 @@ fn grant(table: &mut [u8], req: &[u8], answer: &mut [u8]) -> usize
     rows
 }
 
-pub fn apply(table: &mut [u8], req: &[u8], answer: &mut [u8]) -> Answer
+pub fn apply(table: &mut [u8], req: &[u8], answer: &mut [u8]) -> Writing
     ensures { λ r. ⌜ outcomeBy r (now (table .exit)) (now (answer .exit)) ≡ applied current (now (table .entry)) (now (req .entry)) (now (answer .entry)) ⌝ }
 {
     if let Verdict::Refused(refusal) = verdict(table, req, answer.len()) {
-        return Answer::Nothing(refusal);
+        return Writing::Unwritten(refusal);
     }
     let rows = grant(table, req, answer);
-    Answer::Written(ANSWER + ROW * rows)
+    Writing::Written(ANSWER + ROW * rows)
 }

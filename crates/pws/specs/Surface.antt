@@ -1,16 +1,16 @@
 -- What the results of the C functions, with the buffers that they leave, say.
 use mathlib.Core.List.{List}
 use Prim.Native.Nat.{ℕ}
-use Rattle.rules.specs.Refusals.{answerNumber, answerLength}
+use Rattle.rules.specs.Refusals.{writingNumber, writingLength}
 use Rattle.rules.specs.Applied.{Filled, ReadOutcome, Outcome}
-use Rattle.rules.specs.declared.Answer.{Answer}
+use Rattle.rules.specs.declared.Writing.{Writing}
 use Rattle.segments.specs.Segments.{Lies}
 use Rattle.pws.specs.declared.PwsDone.{PwsDone}
 use Rattle.pws.specs.declared.PwsReading.{PwsReading}
 use Rattle.pws.specs.declared.PwsPart.{PwsPart}
 
-abbrev pub doneBy : Answer → PwsDone
-doneBy x = record { number = answerNumber x; length = answerLength x }
+abbrev pub doneBy : Writing → PwsDone
+doneBy x = record { number = writingNumber x; length = writingLength x }
 
 -- one buffer is left
 abbrev pub filled : PwsDone → List ℕ → Filled

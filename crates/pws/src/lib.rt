@@ -3,11 +3,11 @@ ghost use mathlib.Core.Path.{_≡_};
 ghost use Rattle.rules.specs.Applied.{noRequest};
 ghost use Rattle.pws.specs.Surface.{doneBy};
 ghost use Rattle.pws.specs.Promises.{BuildPromise, ConvertPromise, ApplyPromise, ReadPromise, WritePromise, ItemPromise, SegmentPromise, PackPromise};
-use rules::Answer;
 use rules::Broadcasts;
 use rules::Reading;
 use rules::Request;
 use rules::Seconds;
+use rules::Writing;
 use segments::read::Part;
 
 // 0 and the length written, or a refusal's number and 0.
@@ -35,12 +35,12 @@ pub struct PwsPart {
     pub length: usize,
 }
 
-fn done(answer: Answer) -> PwsDone
-    ensures { λ r. ⌜ r ≡ doneBy answer ⌝ }
+fn done(writing: Writing) -> PwsDone
+    ensures { λ r. ⌜ r ≡ doneBy writing ⌝ }
 {
     PwsDone {
-        number: answer.number(),
-        length: answer.length(),
+        number: writing.number(),
+        length: writing.length(),
     }
 }
 
@@ -48,14 +48,14 @@ fn done(answer: Answer) -> PwsDone
 pub extern "C" fn pws_build(heads: &[u8], table: &mut [u8]) -> PwsDone
     ensures { λ r. ⌜ BuildPromise (now (heads .entry)) (now (table .entry)) r (now (table .exit)) ⌝ }
 {
-    done(builder::build(heads, table))
+    done(table_build::build(heads, table))
 }
 
 #[no_mangle]
 pub extern "C" fn pws_convert(old: &[u8], table: &mut [u8]) -> PwsDone
     ensures { λ r. ⌜ ConvertPromise (now (old .entry)) (now (table .entry)) r (now (table .exit)) ⌝ }
 {
-    done(convert::convert(old, table))
+    done(table_convert::convert(old, table))
 }
 
 #[no_mangle]
@@ -69,7 +69,7 @@ pub extern "C" fn pws_apply(table: &mut [u8], req: &[u8], answer: &mut [u8]) -> 
 pub extern "C" fn pws_read(req: &[u8]) -> PwsReading
     ensures { λ r. ⌜ ReadPromise (now (req .entry)) r ⌝ }
 {
-    match record::read::read(req) {
+    match record_read::read::read(req) {
         Reading::Fields(request, items) => PwsReading {
             number: 0,
             request,
@@ -87,14 +87,14 @@ pub extern "C" fn pws_read(req: &[u8]) -> PwsReading
 pub extern "C" fn pws_write(request: Request, items: &[u64], buffer: &mut [u8]) -> PwsDone
     ensures { λ r. ⌜ WritePromise request (now (items .entry)) (now (buffer .entry)) r (now (buffer .exit)) ⌝ }
 {
-    done(writer::write(request, items, buffer))
+    done(record_write::write(request, items, buffer))
 }
 
 #[no_mangle]
 pub extern "C" fn pws_item(req: &[u8], k: usize) -> u64
     ensures { λ r. ⌜ ItemPromise (now (req .entry)) k r ⌝ }
 {
-    record::read::item(req, k)
+    record_read::read::item(req, k)
 }
 
 #[no_mangle]

@@ -9,10 +9,10 @@ use lib.ListN.{length}
 use borrow.Author.Tests.{ltb-false}
 use Rattle.rules.specs.Layout.{mostCells}
 use Rattle.rules.proofs.ListsLaws.{neither}
-use Rattle.lines.specs.Framing.{headsEnd}
-use Rattle.turns.specs.Serve.{mostText}
-use Rattle.turns.specs.Buffers.{Standing, Turned}
-use Rattle.turns.specs.declared.Stand.{Stand}
+use Rattle.report_lines.specs.Framing.{headsEnd}
+use Rattle.report_turns.specs.Serve.{mostText}
+use Rattle.report_turns.specs.Buffers.{Standing, Turned}
+use Rattle.report_turns.specs.declared.Stand.{Stand}
 use Rattle.report.specs.Going.{Written, ReadOn}
 
 -- a turn, from where one may begin, in buffers that keep their lengths

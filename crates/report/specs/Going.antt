@@ -1,7 +1,7 @@
 -- Where the program stands once its text was written, and once it has read: what a system call brought is not said.
 use mathlib.Core.Path.{_≡_}
 use Prim.Native.Nat.{ℕ, _≤_}
-use Rattle.turns.specs.declared.Stand.{Stand}
+use Rattle.report_turns.specs.declared.Stand.{Stand}
 
 pub record Written (s s' : Stand) : Type 0 where
   pub cells : s' .cells ≡ s .cells

@@ -1,28 +1,28 @@
 // The program "broadcast report": N, N heads and then request records on standard input; what each is told on standard output.
-// Only reading and writing stand here, and the loop around them; what is said, and when, is in the crate turns.
+// Only reading and writing stand here, and the loop around them; what is said, and when, is in the crate report_turns.
 ghost use mathlib.Core.Bool.{false};
 ghost use mathlib.Core.Path.{_≡_};
 ghost use Prim.Native.Nat.{_-_, _≤_, _<_};
 ghost use lib.ListN.{length};
 ghost use Rattle.rules.specs.Layout.{mostCells};
-ghost use Rattle.lines.specs.Framing.{headsEnd};
-ghost use Rattle.turns.specs.Report.{answerRoom, tableSize};
-ghost use Rattle.turns.specs.Serve.{mostText};
-ghost use Rattle.turns.specs.Buffers.{Standing};
+ghost use Rattle.report_lines.specs.Framing.{headsEnd};
+ghost use Rattle.report_turns.specs.Report.{answerRoom, tableSize};
+ghost use Rattle.report_turns.specs.Serve.{mostText};
+ghost use Rattle.report_turns.specs.Buffers.{Standing};
 ghost use Rattle.report.specs.Going.{Written, ReadOn};
 use libc::STDERR_FILENO;
 use libc::STDIN_FILENO;
 use libc::STDOUT_FILENO;
-use lines::frame::settle;
+use report_lines::frame::settle;
+use report_turns::Stand;
+use report_turns::start;
+use report_turns::turn;
 use rules::layout::ANSWER;
 use rules::layout::CELL;
 use rules::layout::HEADER;
 use rules::layout::MOST_CELLS;
 use rules::layout::PLACES;
 use rules::layout::ROW;
-use turns::Stand;
-use turns::start;
-use turns::turn;
 
 // ---- what went wrong outside
 

@@ -3,8 +3,8 @@ use Rattle.octets.specs.Settled.{SettlesResult}
 use Rattle.octets.proofs.Once.{one-outcome}
 use Rattle.rules.proofs.Refusal.number.Reads as refusal-number
 use Rattle.rules.proofs.Verdict.number.Reads as verdict-number
-use Rattle.rules.proofs.Answer.number.Reads as answer-number
-use Rattle.rules.proofs.Answer.length.Reads as answer-length
+use Rattle.rules.proofs.Writing.number.Reads as writing-number
+use Rattle.rules.proofs.Writing.length.Reads as writing-length
 use Rattle.rules.proofs.CellIdentity.new.Reads as new
 use Rattle.rules.proofs.CellIdentity.plmn.Reads as plmn
 use Rattle.rules.proofs.CellIdentity.part.Reads as part
@@ -16,11 +16,11 @@ refusal-number-once κ args r s e f = one-outcome
 pub verdict-number-once : SettlesResult verdict-number.Learnt
 verdict-number-once κ args r s e f = one-outcome
 
-pub answer-number-once : SettlesResult answer-number.Learnt
-answer-number-once κ args r s e f = one-outcome
+pub writing-number-once : SettlesResult writing-number.Learnt
+writing-number-once κ args r s e f = one-outcome
 
-pub answer-length-once : SettlesResult answer-length.Learnt
-answer-length-once κ args r s e f = one-outcome
+pub writing-length-once : SettlesResult writing-length.Learnt
+writing-length-once κ args r s e f = one-outcome
 
 pub new-once : SettlesResult new.Learnt
 new-once κ args r s e f = one-outcome

@@ -5,12 +5,12 @@ use mathlib.Core.List.{List, [], _∷_}
 use Prim.Native.Nat.{ℕ}
 use native.Mathlib.Omega.{arith}
 use lib.ListN.{getD}
-use Rattle.rules.specs.Refusals.{numberOf, answerNumber, answerLength}
+use Rattle.rules.specs.Refusals.{numberOf, writingNumber, writingLength}
 use Rattle.rules.specs.Applied.{Filled, ReadOutcome, Outcome, filledBy, readBy, outcomeBy}
 use Rattle.rules.specs.declared.Refusal.{Refusal}
 use Rattle.rules.specs.declared.Refusal.the-variants.{TableMark, TableWrong, RecordMark, RecordLength, RecordFields, RecordLimits, CancelsNothing, ShortBuffer, BadHeads, ListDamaged, TooManySegments, NoSuchSegment}
-use Rattle.rules.specs.declared.Answer.{Answer}
-use Rattle.rules.specs.declared.Answer.the-variants.{Written, Nothing}
+use Rattle.rules.specs.declared.Writing.{Writing}
+use Rattle.rules.specs.declared.Writing.the-variants.{Written, Unwritten}
 use Rattle.rules.specs.declared.Reading.{Reading}
 use Rattle.rules.specs.declared.Reading.the-variants.{Fields, Unread}
 use Rattle.rules.proofs.OutcomeLaws.{number-positive}
@@ -38,21 +38,21 @@ numbered-number NoSuchSegment = refl
 pub number-injective : (x y : Refusal) → numberOf x ≡ numberOf y → x ≡ y
 number-injective x y e = sym (numbered-number x) ∙ ap numbered e ∙ numbered-number y
 
-pub answer-injective : (x y : Answer) → answerNumber x ≡ answerNumber y → answerLength x ≡ answerLength y → x ≡ y
-answer-injective (Written m) (Written n) e l = ap Written l
-answer-injective (Written m) (Nothing y) e l = absurd (omega (arith, number-positive y))
-answer-injective (Nothing x) (Written n) e l = absurd (omega (arith, number-positive x))
-answer-injective (Nothing x) (Nothing y) e l = ap Nothing (number-injective x y e)
+pub writing-injective : (x y : Writing) → writingNumber x ≡ writingNumber y → writingLength x ≡ writingLength y → x ≡ y
+writing-injective (Written m) (Written n) e l = ap Written l
+writing-injective (Written m) (Unwritten y) e l = absurd (omega (arith, number-positive y))
+writing-injective (Unwritten x) (Written n) e l = absurd (omega (arith, number-positive x))
+writing-injective (Unwritten x) (Unwritten y) e l = ap Unwritten (number-injective x y e)
 
 -- an answer and the buffer that it leaves
-pub filled-injective : (x y : Answer) (a b : List ℕ) → filledBy x a ≡ filledBy y b → (x ≡ y) × (a ≡ b)
+pub filled-injective : (x y : Writing) (a b : List ℕ) → filledBy x a ≡ filledBy y b → (x ≡ y) × (a ≡ b)
 filled-injective x y a b e =
-    (answer-injective x y (ap (λ (f : Filled). f .number) e) (ap (λ (f : Filled). f .length) e), ap (λ (f : Filled). f .buffer) e)
+    (writing-injective x y (ap (λ (f : Filled). f .number) e) (ap (λ (f : Filled). f .length) e), ap (λ (f : Filled). f .buffer) e)
 
 -- an answer and the two buffers that it leaves
-pub outcome-injective : (x y : Answer) (t a u b : List ℕ) → outcomeBy x t a ≡ outcomeBy y u b → (x ≡ y) × (t ≡ u) × (a ≡ b)
+pub outcome-injective : (x y : Writing) (t a u b : List ℕ) → outcomeBy x t a ≡ outcomeBy y u b → (x ≡ y) × (t ≡ u) × (a ≡ b)
 outcome-injective x y t a u b e =
-    (answer-injective x y (ap (λ (o : Outcome). o .number) e) (ap (λ (o : Outcome). o .length) e), ap (λ (o : Outcome). o .table) e, ap (λ (o : Outcome). o .answer) e)
+    (writing-injective x y (ap (λ (o : Outcome). o .number) e) (ap (λ (o : Outcome). o .length) e), ap (λ (o : Outcome). o .table) e, ap (λ (o : Outcome). o .answer) e)
 
 pub reading-injective : (x y : Reading) → readBy x ≡ readBy y → x ≡ y
 reading-injective (Fields p m) (Fields q n) e =

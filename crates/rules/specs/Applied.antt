@@ -13,9 +13,9 @@ use Rattle.rules.specs.Record.{requestOf, itemCount, itemsOf, recordByte
 use Rattle.rules.specs.Reach.{reaches}
 use Rattle.rules.specs.InCell.{Told, inCell}
 use Rattle.rules.specs.Answer.{Row, answerBytes}
-use Rattle.rules.specs.Refusals.{numberOf, answerNumber, answerLength, headRuns, recordVerdict, writeVerdict, applyVerdict, buildVerdict, convertVerdict}
+use Rattle.rules.specs.Refusals.{numberOf, writingNumber, writingLength, headRuns, recordVerdict, writeVerdict, applyVerdict, buildVerdict, convertVerdict}
 use Rattle.rules.specs.declared.Request.{Request}
-use Rattle.rules.specs.declared.Answer.{Answer}
+use Rattle.rules.specs.declared.Writing.{Writing}
 use Rattle.rules.specs.declared.Reading.{Reading}
 use Rattle.rules.specs.declared.Reading.the-variants.{Fields, Unread}
 use Rattle.rules.specs.declared.Verdict.{Verdict}
@@ -34,8 +34,8 @@ fill Accepted bs buffer = record { number = 0; length = length bs; buffer = sets
 fill (Refused x) bs buffer = record { number = numberOf x; length = 0; buffer = buffer }
 
 -- what an answer, and the buffer that it leaves, say
-abbrev pub filledBy : Answer → List ℕ → Filled
-filledBy x buffer = record { number = answerNumber x; length = answerLength x; buffer = buffer }
+abbrev pub filledBy : Writing → List ℕ → Filled
+filledBy x buffer = record { number = writingNumber x; length = writingLength x; buffer = buffer }
 
 unfoldable pub emptyCell : List ℕ → Cell
 emptyCell b = record { head = headOf b; places = [] }
@@ -119,8 +119,8 @@ pub record Outcome : Type 0 where
   pub answer : List ℕ
 
 -- what an answer, and both buffers that it leaves, say
-abbrev pub outcomeBy : Answer → List ℕ → List ℕ → Outcome
-outcomeBy x t a = record { number = answerNumber x; length = answerLength x; table = t; answer = a }
+abbrev pub outcomeBy : Writing → List ℕ → List ℕ → Outcome
+outcomeBy x t a = record { number = writingNumber x; length = writingLength x; table = t; answer = a }
 
 -- refused: both buffers as they were; accepted: the cells after the rule, and the answer at the start of its buffer
 unfoldable pub outcome : Version → Verdict → Request → List ℕ → List ℕ → List ℕ → Outcome

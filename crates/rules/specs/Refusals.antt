@@ -17,8 +17,8 @@ use Rattle.rules.specs.declared.Refusal.{Refusal}
 use Rattle.rules.specs.declared.Refusal.the-variants.{TableMark, TableWrong, RecordMark, RecordLength, RecordFields, RecordLimits, CancelsNothing, ShortBuffer, BadHeads, ListDamaged, TooManySegments, NoSuchSegment}
 use Rattle.rules.specs.declared.Verdict.{Verdict}
 use Rattle.rules.specs.declared.Verdict.the-variants.{Accepted, Refused}
-use Rattle.rules.specs.declared.Answer.{Answer}
-use Rattle.rules.specs.declared.Answer.the-variants.{Written, Nothing}
+use Rattle.rules.specs.declared.Writing.{Writing}
+use Rattle.rules.specs.declared.Writing.the-variants.{Written, Unwritten}
 
 -- ---- numbers: 10 to 12 are those of a list of segments (crate segments)
 
@@ -41,13 +41,13 @@ verdictNumber Accepted = 0
 verdictNumber (Refused x) = numberOf x
 
 -- "A refusal returns its number and length 0"; "Success returns 0 and the length written"
-abbrev pub answerNumber : Answer → ℕ
-answerNumber (Written n) = 0
-answerNumber (Nothing x) = numberOf x
+abbrev pub writingNumber : Writing → ℕ
+writingNumber (Written n) = 0
+writingNumber (Unwritten x) = numberOf x
 
-abbrev pub answerLength : Answer → ℕ
-answerLength (Written n) = n
-answerLength (Nothing x) = 0
+abbrev pub writingLength : Writing → ℕ
+writingLength (Written n) = n
+writingLength (Unwritten x) = 0
 
 -- ---- tests in order
 

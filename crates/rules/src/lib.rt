@@ -1,7 +1,7 @@
 // Document 01's types. What they mean, and every rule about them, stands in specs/.
 ghost use mathlib.Core.Path.{_≡_};
 ghost use Rattle.rules.specs.Identity.{identityAnswer, plmnOf, partOf, trackingItem};
-ghost use Rattle.rules.specs.Refusals.{numberOf, verdictNumber, answerNumber, answerLength};
+ghost use Rattle.rules.specs.Refusals.{numberOf, verdictNumber, writingNumber, writingLength};
 
 pub mod kind;
 pub mod layout;
@@ -94,27 +94,27 @@ impl Verdict {
 }
 
 // What whoever fills a buffer answers: the length written, or why nothing was.
-pub enum Answer {
+pub enum Writing {
     Written(usize),
-    Nothing(Refusal),
+    Unwritten(Refusal),
 }
 
-impl Answer {
+impl Writing {
     pub fn number(self) -> u32
-        ensures { λ r. ⌜ r ≡ answerNumber self ⌝ }
+        ensures { λ r. ⌜ r ≡ writingNumber self ⌝ }
     {
         match self {
-            Answer::Written(_) => 0,
-            Answer::Nothing(refusal) => refusal.number(),
+            Writing::Written(_) => 0,
+            Writing::Unwritten(refusal) => refusal.number(),
         }
     }
 
     pub fn length(self) -> usize
-        ensures { λ r. ⌜ r ≡ answerLength self ⌝ }
+        ensures { λ r. ⌜ r ≡ writingLength self ⌝ }
     {
         match self {
-            Answer::Written(bytes) => bytes,
-            Answer::Nothing(_) => 0,
+            Writing::Written(bytes) => bytes,
+            Writing::Unwritten(_) => 0,
         }
     }
 }

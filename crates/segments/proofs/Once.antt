@@ -6,7 +6,7 @@ use native.Mathlib.Omega.{arith}
 use denote.Ref.{now, ptr}
 use Rattle.octets.specs.Settled.{Settles, SettlesResult}
 use Rattle.octets.proofs.Once.{one-outcome, both-once}
-use Rattle.rules.specs.declared.Answer.{Answer}
+use Rattle.rules.specs.declared.Writing.{Writing}
 use Rattle.rules.proofs.OnceLaws.{filled-injective, number-injective}
 use Rattle.rules.proofs.OutcomeLaws.{number-positive}
 use Rattle.segments.specs.Segments.{Lies, liesBy}
@@ -53,5 +53,5 @@ locate-once κ args r s e f p q = part-injective r s (one-outcome p q)
 pub number-once : SettlesResult number.Learnt
 number-once κ args r s e f = one-outcome
 
-pub pack-once : Settles {X = Answer × List ℕ} pack.Learnt (λ κ r e. (r, now (e .1 .1 .0)))
+pub pack-once : Settles {X = Writing × List ℕ} pack.Learnt (λ κ r e. (r, now (e .1 .1 .0)))
 pack-once κ args r s e f p q = let both = filled-injective r s (now (e .1 .1 .0)) (now (f .1 .1 .0)) (one-outcome p q) in both-once (both .0) (both .1)

@@ -14,7 +14,7 @@ use Rattle.octets.proofs.NumbersLaws.{length-toBe}
 use Rattle.octets.proofs.RunsLaws.{sets-run}
 use Rattle.rules.specs.Refusals.{refuseUnless, _then_}
 use Rattle.rules.specs.Applied.{fill, filledBy}
-use Rattle.rules.specs.declared.Answer.the-variants.{Written, Nothing}
+use Rattle.rules.specs.declared.Writing.the-variants.{Written, Unwritten}
 use Rattle.rules.specs.declared.Refusal.{Refusal}
 use Rattle.rules.specs.declared.Refusal.the-variants.{ListDamaged, TooManySegments, ShortBuffer}
 use Rattle.rules.specs.declared.Verdict.the-variants.{Accepted, Refused}
@@ -64,7 +64,7 @@ module _ (bytes lengths list list′ : List ℕ) where
   unfolding packed fill
   pack-done v e = rw (v, e, sym (pack-size bytes lengths (length list) v))
 
-  pub pack-refused : (x : Refusal) → packVerdict bytes lengths (length list) ≡ Refused x → list′ ≡ list → filledBy (Nothing x) list′ ≡ packed bytes lengths list
+  pub pack-refused : (x : Refusal) → packVerdict bytes lengths (length list) ≡ Refused x → list′ ≡ list → filledBy (Unwritten x) list′ ≡ packed bytes lengths list
   unfolding packed fill
   pack-refused x v e = rw (v, e)
 

@@ -11,15 +11,15 @@ use borrow.Author.Tests.{le-leb, lt-leb, leb-true, leb-false}
 use Rattle.octets.specs.Runs.{Bytes}
 use Rattle.octets.proofs.RunsLaws.{take-sets-front, bytes-take, bytes-drop}
 use Rattle.octets.proofs.NumbersLaws.{be-lt}
-use Rattle.rules.specs.Refusals.{answerNumber, answerLength, numberOf}
+use Rattle.rules.specs.Refusals.{writingNumber, writingLength, numberOf}
 use Rattle.rules.specs.Applied.{Filled, fill, filledBy}
-use Rattle.rules.specs.declared.Answer.{Answer}
-use Rattle.rules.specs.declared.Answer.the-variants.{Written}
+use Rattle.rules.specs.declared.Writing.{Writing}
+use Rattle.rules.specs.declared.Writing.the-variants.{Written}
 use Rattle.rules.specs.declared.Refusal.the-variants.{NoSuchSegment}
 use Rattle.rules.specs.declared.Verdict.the-variants.{Accepted}
 use Rattle.rules.proofs.AllLaws.{All, none, more}
 use Rattle.rules.proofs.ListsLaws.{by-test}
-use Rattle.rules.proofs.OnceLaws.{answer-injective}
+use Rattle.rules.proofs.OnceLaws.{writing-injective}
 use Rattle.rules.proofs.OutcomeLaws.{fill-accepted}
 use Rattle.segments.specs.Segments.{mostSegments, lengthSize, listBytes, firstLength, firstEnd, firstOf, segmentsIn, segmentsOf, wholeList, segmentVerdict, segmentOf, lying, liesAt, cutAt, lengthsFit, packVerdict, packed}
 use Rattle.segments.proofs.ListLaws.{Sayable, in-more, in-none, segments-packed, packed-whole, packed-segments}
@@ -68,7 +68,7 @@ number-accepted first list (suc j) v = rw v
 -- ---- packed, then read
 
 -- `x` and `b` are what `pack` answered and left
-module _ (bytes lengths buffer : List ℕ) (x : Answer) (b : List ℕ) (promise : filledBy x b ≡ packed bytes lengths buffer) (ok : answerNumber x ≡ 0) where
+module _ (bytes lengths buffer : List ℕ) (x : Writing) (b : List ℕ) (promise : filledBy x b ≡ packed bytes lengths buffer) (ok : writingNumber x ≡ 0) where
   verdict : packVerdict bytes lengths (length buffer) ≡ Accepted
   unfolding packed
   verdict = fill-accepted (packVerdict bytes lengths (length buffer)) (listBytes (cutAt lengths bytes)) buffer (sym (ap (λ (f : Filled). f .number) promise) ∙ ok)
@@ -77,38 +77,38 @@ module _ (bytes lengths buffer : List ℕ) (x : Answer) (b : List ℕ) (promise 
   says = pack-says bytes lengths (length buffer) verdict
 
   -- the bytes of the list that was written
-  pub packed-list : take (answerLength x) b ≡ listBytes (cutAt lengths bytes)
+  pub packed-list : take (writingLength x) b ≡ listBytes (cutAt lengths bytes)
   unfolding packed fill
   packed-list =
       let whole : filledBy x b ≡ fill Accepted (listBytes (cutAt lengths bytes)) buffer = promise ∙ ap (λ v. fill v (listBytes (cutAt lengths bytes)) buffer) verdict in
       ap (λ (f : Filled). take (f .length) (f .buffer)) whole ∙ take-sets-front buffer (listBytes (cutAt lengths bytes)) (says .holds)
 
-  pub packed-read : segmentsOf (take (answerLength x) b) ≡ cutAt lengths bytes
+  pub packed-read : segmentsOf (take (writingLength x) b) ≡ cutAt lengths bytes
   packed-read = ap segmentsOf packed-list ∙ segments-packed (cut-sayable lengths bytes (says .fit))
 
   -- every k up to the number of lengths is accepted, and its segment is the one that was given; the first buffer's own for 0
-  packed-accepted : (k : ℕ) → k ≤ length lengths → segmentVerdict (take (answerLength x) b) k ≡ Accepted
+  packed-accepted : (k : ℕ) → k ≤ length lengths → segmentVerdict (take (writingLength x) b) k ≡ Accepted
   packed-accepted k h =
-      accepted-list (take (answerLength x) b) k
+      accepted-list (take (writingLength x) b) k
       (record {
         whole = ap wholeList packed-list ∙ packed-whole (cut-sayable lengths bytes (says .fit));
         few = rw (packed-read, length-cutAt lengths bytes) (says .few);
         among = rw (packed-read, length-cutAt lengths bytes) h;
       })
 
-  pub packed-segment : (first : List ℕ) (k : ℕ) → k ≤ length lengths → segmentOf first (take (answerLength x) b) k ≡ getD (first ∷ cutAt lengths bytes) k []
+  pub packed-segment : (first : List ℕ) (k : ℕ) → k ≤ length lengths → segmentOf first (take (writingLength x) b) k ≡ getD (first ∷ cutAt lengths bytes) k []
   unfolding segmentOf
   packed-segment first k h = rw (packed-accepted k h, packed-read)
 
-  pub packed-number : (first : List ℕ) (k : ℕ) → k ≤ length lengths → liesAt first (take (answerLength x) b) k .number ≡ 0
-  packed-number first k h = number-accepted first (take (answerLength x) b) k (packed-accepted k h)
+  pub packed-number : (first : List ℕ) (k : ℕ) → k ≤ length lengths → liesAt first (take (writingLength x) b) k .number ≡ 0
+  packed-number first k h = number-accepted first (take (writingLength x) b) k (packed-accepted k h)
 
   -- and there is no further one
-  pub packed-beyond : (first : List ℕ) (k : ℕ) → length lengths < k → liesAt first (take (answerLength x) b) k .number ≡ numberOf NoSuchSegment
+  pub packed-beyond : (first : List ℕ) (k : ℕ) → length lengths < k → liesAt first (take (writingLength x) b) k .number ≡ numberOf NoSuchSegment
   unfolding liesAt lying segmentVerdict
   packed-beyond first k h =
-      let a = list-accepted (take (answerLength x) b) 0 (packed-accepted 0 (omega arith)) in
-      let many : length (segmentsOf (take (answerLength x) b)) ≡ length lengths = ap length packed-read ∙ length-cutAt lengths bytes in
+      let a = list-accepted (take (writingLength x) b) 0 (packed-accepted 0 (omega arith)) in
+      let many : length (segmentsOf (take (writingLength x) b)) ≡ length lengths = ap length packed-read ∙ length-cutAt lengths bytes in
       rw (a .whole, many, le-leb (length lengths) mostSegments (says .few), lt-leb k (length lengths) h)
 
 -- ---- read, then packed
@@ -165,7 +165,7 @@ module _ (list : List ℕ) (bytes : Bytes list) (first : List ℕ) (n : ℕ) (la
       at k h = segment-at first list k (later-accepted list n (k + 1) accepted (omega (arith, all)))
 
   -- whatever `pack` answers and leaves where there is room: the same bytes again, and those behind them as they were
-  pub read-packed : (buffer : List ℕ) → length list ≤ length buffer → (x : Answer) (b : List ℕ) → filledBy x b ≡ packed (inRow ss) (map length ss) buffer
+  pub read-packed : (buffer : List ℕ) → length list ≤ length buffer → (x : Writing) (b : List ℕ) → filledBy x b ≡ packed (inRow ss) (map length ss) buffer
       → (x ≡ Written (length list)) × (b ≡ sets buffer 0 list)
   unfolding packed fill segmentsOf
   read-packed buffer room x b promise =
@@ -179,4 +179,4 @@ module _ (list : List ℕ) (bytes : Bytes list) (first : List ℕ) (n : ℕ) (la
         holds = rw same room;
       }) in
       let w : filledBy x b ≡ record { number = 0; length = length list; buffer = sets buffer 0 list } = promise ∙ rw (v, same) in
-      (answer-injective x (Written (length list)) (ap (λ (f : Filled). f .number) w) (ap (λ (f : Filled). f .length) w), ap (λ (f : Filled). f .buffer) w)
+      (writing-injective x (Written (length list)) (ap (λ (f : Filled). f .number) w) (ap (λ (f : Filled). f .length) w), ap (λ (f : Filled). f .buffer) w)

@@ -11,9 +11,9 @@ use crate::LONGEST_SEGMENT;
 use crate::MOST_SEGMENTS;
 use octets::copy;
 use octets::put16;
-use rules::Answer;
 use rules::Refusal;
 use rules::Verdict;
+use rules::Writing;
 
 // Whether the lengths add up to so many bytes, and none is too long. What is left is counted down, so that no sum can overflow.
 fn lengths_fit(lengths: &[u64], bytes: usize) -> bool
@@ -80,14 +80,14 @@ fn put_segments(bytes: &[u8], lengths: &[u64], list: &mut [u8])
 }
 
 // The list at the start of the buffer; bytes behind it stay. A refusal writes nothing.
-pub fn pack(bytes: &[u8], lengths: &[u64], list: &mut [u8]) -> Answer
+pub fn pack(bytes: &[u8], lengths: &[u64], list: &mut [u8]) -> Writing
     ensures { λ r. ⌜ filledBy r (now (list .exit)) ≡ packed (now (bytes .entry)) (now (lengths .entry)) (now (list .entry)) ⌝ }
 {
     match verdict(bytes, lengths, list.len()) {
         Verdict::Accepted => {
             put_segments(bytes, lengths, list);
-            Answer::Written(LENGTH * lengths.len() + bytes.len())
+            Writing::Written(LENGTH * lengths.len() + bytes.len())
         }
-        Verdict::Refused(refusal) => Answer::Nothing(refusal),
+        Verdict::Refused(refusal) => Writing::Unwritten(refusal),
     }
 }

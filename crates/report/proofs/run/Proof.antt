@@ -7,8 +7,8 @@ use mathlib.Core.List.{List}
 use native.Mathlib.Omega.{arith}
 use lib.ListN.{length}
 use borrow.Author.Needs.{needs}
-use Rattle.turns.specs.Buffers.{Standing}
-use Rattle.turns.specs.declared.Stand.{Stand}
+use Rattle.report_turns.specs.Buffers.{Standing}
+use Rattle.report_turns.specs.declared.Stand.{Stand}
 use Rattle.report.proofs.run.Statement.{statement}
 use Rattle.report.proofs.run.Tie as tie
 

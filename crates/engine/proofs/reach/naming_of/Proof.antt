@@ -4,7 +4,7 @@ use borrow.Author.Needs.{needs}
 use lib.Dec.{eqb}
 use Rattle.rules.specs.Lists.{any, oneOf}
 use Rattle.rules.proofs.KindAreaLaws.{names-cell, names-tracking, names-emergency, names-other}
-use Rattle.cell.specs.Places.{areasIn}
+use Rattle.cell_read.specs.Places.{areasIn}
 use Rattle.engine.specs.Reach.{turnedKeys, namingOf}
 use Rattle.engine.proofs.Searching.{or-false, no-keys}
 use Rattle.engine.proofs.reach.naming_of.Statement.{statement}

@@ -12,7 +12,7 @@ use Rattle.rules.specs.Record.{oneSecond, requestOf, itemsOf}
 use Rattle.rules.specs.Answer.{rowBytes}
 use Rattle.rules.proofs.InCellLaws.{inCell-second}
 use Rattle.engine.specs.Walk.{rowsAfter, tableAfter}
-use Rattle.routines.proofs.KindLaws.{ready-for, stepped-by, rows-of-kind}
+use Rattle.in_cell.proofs.KindLaws.{ready-for, stepped-by, rows-of-kind}
 use Rattle.engine.proofs.WalkFacts.{GoingOn, begin, asked, stepped, stepped-silent, second-reaches}
 use Rattle.engine.proofs.Walking.{few-here, over-table, over-count, over-answer}
 use Rattle.engine.proofs.walk.seconds.Statement.{statement}

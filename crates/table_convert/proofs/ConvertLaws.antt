@@ -1,0 +1,68 @@
+-- The converter's answers are `conversion`: 1 and 2 by version 1's rules, then 8, then the same cells in the current layout, whole.
+-- The bytes of an accepted table's cells are the widened ones, behind a header of the current version.
+use mathlib.Core.Path.{_≡_, _∙_}
+use mathlib.Core.List.{List, _++_, flatMap}
+use Prim.Native.Nat.{ℕ, _+_, _-_, _*_, _≤_, _<_}
+use native.Mathlib.Omega.{arith}
+use borrow.Author.Tests.{le-leb, lt-leb}
+use lib.ListN.{length, take, drop}
+use lib.Seq.{sets}
+use Rattle.octets.specs.Runs.{gets, pieces, Bytes}
+use Rattle.octets.specs.Numbers.{be}
+use Rattle.octets.proofs.RunsLaws.{sets-run}
+use Rattle.rules.specs.Layout.{version1, current, headerSize, cellSize, mostCells}
+use Rattle.rules.specs.Table.{cellCount, cellOf, cellBytes, cellRuns, cellsOf, headerBytes, tableBytes}
+use Rattle.rules.specs.Refusals.{tableVerdict}
+use Rattle.rules.specs.Applied.{filledBy, fill, converted, conversion}
+use Rattle.rules.specs.declared.Refusal.{Refusal}
+use Rattle.rules.specs.declared.Refusal.the-variants.{ShortBuffer}
+use Rattle.rules.specs.declared.Verdict.the-variants.{Accepted, Refused}
+use Rattle.rules.specs.declared.Writing.the-variants.{Written, Unwritten}
+use Rattle.rules.proofs.ListsLaws.{flatMap-map}
+use Rattle.rules.proofs.AllLaws.{all-imply, flatMap-all}
+use Rattle.rules.proofs.OffsetLaws.{count-at}
+use Rattle.rules.proofs.VerdictLaws.{convert-chain}
+use Rattle.rules.proofs.TableCodec.{table-accepted, length-cellsOf, table-cells, length-headerBytes}
+use Rattle.rules.proofs.ConvertedLaws.{length-converted}
+use Rattle.table_judge.proofs.PiecesLaws.{take-rest}
+use Rattle.table_convert.specs.Wide.{wideCell}
+use Rattle.table_convert.proofs.WideCellLaws.{wide-bytes}
+
+-- refused by version 1's rules
+pub old-refused : (old t : List ℕ) {x : Refusal} → Refused x ≡ tableVerdict version1 old → filledBy (Unwritten x) t ≡ conversion old t
+unfolding conversion fill
+old-refused old t e = rw (convert-chain old (length t), ← e)
+
+module _ (old : List ℕ) (accepted : tableVerdict version1 old ≡ Accepted) where
+  pub old-size : length old ≡ headerSize + cellSize version1 * cellCount old
+  old-size = table-accepted version1 old accepted .size
+
+  pub old-few : cellCount old ≤ mostCells
+  old-few = table-accepted version1 old accepted .few
+
+  -- the count that the code reads
+  pub old-count : {n : ℕ} → n ≡ be (gets old 5 2) → n ≡ cellCount old
+  old-count e = e ∙ count-at old (omega (arith, old-size))
+
+  pub room-short : (t : List ℕ) {n : ℕ} → n ≡ be (gets old 5 2) → length t < headerSize + cellSize current * n → filledBy (Unwritten ShortBuffer) t ≡ conversion old t
+  unfolding conversion fill
+  room-short t e h = rw (convert-chain old (length t), accepted, lt-leb (headerSize + cellSize current * cellCount old) (length t) (rw (old-count e) at h))
+
+  -- the bytes of the same cells
+  widened : Bytes old → converted old ≡ headerBytes current (cellCount old) ++ flatMap wideCell (cellRuns version1 old)
+  unfolding converted tableBytes cellsOf
+  widened bytes =
+      rw (
+        length-cellsOf version1 old,
+        flatMap-map (cellBytes current) (cellOf version1) (cellRuns version1 old),
+        flatMap-all (λ c. cellBytes current (cellOf version1 c)) wideCell (all-imply (λ c h. wide-bytes c (h .0) (h .1) (h .2)) (table-cells version1 old bytes accepted)),
+      )
+
+  pub table-converted : Bytes old → (t : List ℕ) {n : ℕ} → n ≡ be (gets old 5 2) → headerSize + cellSize current * n ≤ length t
+      → {a b : List ℕ} → a ≡ sets t 0 (headerBytes current n) → b ≡ sets a headerSize (flatMap wideCell (pieces (cellSize version1) n (take (length old - headerSize) (drop headerSize old))))
+      → filledBy (Written (headerSize + cellSize current * n)) b ≡ conversion old t
+  unfolding conversion fill
+  table-converted bytes t e room p q =
+      let c = old-count e in
+      let long = length-converted old bytes accepted in
+      rw (convert-chain old (length t), accepted, le-leb (headerSize + cellSize current * cellCount old) (length t) (rw c at room), long, widened bytes, q, p, take-rest, c, sets-run (headerBytes current (cellCount old)) _ t 0 headerSize (rw (length-headerBytes current)))
