@@ -1,4 +1,4 @@
-//! A workload's call made many times in a row, on buffers that are the same for every surface.
+//! A workload's call made many times in a row, on buffers that are the same for all.
 //!
 //! Applying changes its table. So a batch has as many copies of the table as calls, all restored
 //! before the batch and outside of the time taken; that leaves them warm, and the same for all.
@@ -6,11 +6,9 @@
 use std::hint::black_box;
 use std::time::Instant;
 
-use second::Done;
-
 use crate::comparison::call::Call;
 use crate::comparison::unit::Unit;
-use crate::surface::Surface;
+use crate::implementations::Implementation;
 
 /// The bytes that the calls of a batch go over together, or one table where that is more: few
 /// enough for a cache close to the core, enough for the clock's own time not to count.
@@ -50,16 +48,13 @@ impl Lined {
 
 impl Batch {
     pub fn of(call: &Call) -> Batch {
-        let (table, out, bytes) = match call {
-            Call::Apply { table, answer, .. } => (table.clone(), answer.clone(), table.len()),
-            Call::Build { table, .. } | Call::Convert { table, .. } => {
-                (vec![], table.clone(), table.len())
-            }
-            Call::Read { record } => (vec![], vec![], record.len()),
-            Call::Write { record, .. } => (vec![], record.clone(), record.len()),
-            Call::Item { .. } => panic!("no workload is an item alone"),
-            Call::Segment { more, .. } => (vec![], vec![], more.len()),
-            Call::Pack { list, .. } => (vec![], list.clone(), list.len()),
+        let written = call.written().pop();
+        let out = written.map_or(Vec::new(), |(_, buffer)| buffer.to_vec());
+        let (table, bytes) = match call {
+            Call::Apply { table, .. } => (table.clone(), table.len()),
+            Call::Read { record } | Call::Item { record, .. } => (vec![], record.len()),
+            Call::Segment { more, .. } => (vec![], more.len()),
+            _ => (vec![], out.len()),
         };
         let calls = (BYTES / bytes).clamp(1, MOST_CALLS);
         let stride = table.len().next_multiple_of(LINE);
@@ -72,50 +67,49 @@ impl Batch {
     }
 
     /// Nanoseconds of one call.
-    pub fn time(&mut self, surface: &Surface) -> f64 {
+    pub fn time(&mut self, implementation: &Implementation) -> f64 {
         self.restore();
         let begin = Instant::now();
-        self.make(black_box(surface), self.calls);
+        self.make(black_box(implementation), self.calls);
         begin.elapsed().as_nanos() as f64 / self.calls as f64
     }
 
     /// One call alone, for its instructions to be counted.
-    pub fn once(&mut self, surface: &Surface) {
+    pub fn once(&mut self, implementation: &Implementation) {
         self.restore();
-        self.make(surface, 1);
+        self.make(implementation, 1);
     }
 
     fn restore(&mut self) {
         self.tables.bytes(self.saved.len()).copy_from_slice(&self.saved);
     }
 
-    fn make(&mut self, surface: &Surface, calls: usize) {
-        let out = &mut self.out[..];
+    fn make(&mut self, implementation: &Implementation, calls: usize) {
+        let (unit, out) = (&implementation.unit, &mut self.out[..]);
         match &self.call {
             Call::Apply { table, record, .. } => {
                 let length = table.len();
                 let copies = self.tables.bytes(self.stride * calls).chunks_mut(self.stride);
-                copies.for_each(|copy| done(surface.apply(&mut copy[..length], record, out)));
+                copies.for_each(|copy| kept(unit.apply(&mut copy[..length], record, out)));
             }
-            Call::Build { heads, .. } => (0..calls).for_each(|_| done(surface.build(heads, out))),
-            Call::Convert { old, .. } => (0..calls).for_each(|_| done(surface.convert(old, out))),
-            Call::Read { record } => (0..calls).for_each(|_| {
-                black_box(surface.read(record));
-            }),
+            Call::Build { heads, .. } => repeat(calls, || unit.build(heads, out)),
+            Call::Convert { old, .. } => repeat(calls, || unit.convert(old, out)),
+            Call::Read { record } => repeat(calls, || unit.read(record)),
             Call::Write { request, items, .. } => {
-                (0..calls).for_each(|_| done(surface.write(request, items, out)))
+                repeat(calls, || unit.write(*request, items, out))
             }
-            Call::Item { .. } => {}
-            Call::Segment { first, more, k } => (0..calls).for_each(|_| {
-                black_box(surface.place(first, more, *k));
-            }),
-            Call::Pack { bytes, lengths, .. } => {
-                (0..calls).for_each(|_| done(surface.pack(bytes, lengths, out)))
-            }
+            Call::Item { record, k } => repeat(calls, || unit.item(record, *k)),
+            Call::Segment { first, more, k } => repeat(calls, || unit.segment(first, more, *k)),
+            Call::Pack { bytes, lengths, .. } => repeat(calls, || unit.pack(bytes, lengths, out)),
         }
     }
 }
 
-fn done(done: Done) {
-    black_box(done);
+fn repeat<T>(calls: usize, mut call: impl FnMut() -> T) {
+    (0..calls).for_each(|_| kept(call()));
+}
+
+/// What is returned is not left out of the call.
+fn kept<T>(returned: T) {
+    black_box(returned);
 }

@@ -5,8 +5,7 @@ use std::io;
 use std::process::{Command, Stdio};
 
 use crate::batch::Batch;
-use crate::comparison::call::Call;
-use crate::surface::{by_name, Surface, OURS, PEER, SECOND};
+use crate::implementations::{by_name, Implementation, OURS, PEER, SECOND};
 use crate::workloads::Workload;
 
 pub fn is_installed() -> bool {
@@ -15,38 +14,30 @@ pub fn is_installed() -> bool {
 }
 
 /// The mode that runs under callgrind: one call, and nothing else of the same name.
-pub fn make_once(workloads: &[Workload], name: &str, size: &str, surface: &str) -> Option<()> {
+pub fn make_once(
+    workloads: &[Workload],
+    name: &str,
+    size: &str,
+    implementation: &str,
+) -> Option<()> {
     let workload = workloads.iter().find(|w| w.name == name && w.size.to_string() == size)?;
-    Batch::of(&workload.call).once(by_name(surface)?);
+    Batch::of(&workload.call).once(by_name(implementation)?);
     Some(())
 }
 
 /// What callgrind counts between entering and leaving the called function.
-fn count(workload: &Workload, surface: &Surface) -> io::Result<u64> {
-    let entry = format!("--toggle-collect={}_{}", surface.prefix, function(&workload.call));
+fn count(workload: &Workload, implementation: &Implementation) -> io::Result<u64> {
+    let entry = format!("--toggle-collect={}_{}", implementation.prefix, workload.call.name());
     let output = Command::new("valgrind")
         .args(["--tool=callgrind", "--callgrind-out-file=/dev/null", &entry])
         .arg(current_exe()?)
-        .args(["--count", workload.name, &workload.size.to_string(), surface.name])
+        .args(["--count", workload.name, &workload.size.to_string(), implementation.name])
         .output()?;
     let said = String::from_utf8_lossy(&output.stderr).into_owned();
     let collected =
         said.split("Collected : ").nth(1).and_then(|rest| rest.split_whitespace().next());
     let number = collected.and_then(|word| word.parse().ok());
     number.ok_or_else(|| io::Error::other(format!("callgrind counted nothing:\n{said}")))
-}
-
-fn function(call: &Call) -> &'static str {
-    match call {
-        Call::Build { .. } => "build",
-        Call::Convert { .. } => "convert",
-        Call::Apply { .. } => "apply",
-        Call::Read { .. } => "read",
-        Call::Write { .. } => "write",
-        Call::Item { .. } => "item",
-        Call::Segment { .. } => "segment",
-        Call::Pack { .. } => "pack",
-    }
 }
 
 /// A line for each workload at its smallest and largest size; 16 lies between them.
@@ -56,7 +47,7 @@ pub fn print(workloads: &[Workload]) -> io::Result<()> {
         "instructions of one call", "size", "ours", "peer", "second", "o/peer", "o/second"
     );
     for workload in workloads.iter().filter(|workload| workload.size != 16) {
-        let [ours, peer, second] = [&OURS, &PEER, &SECOND].map(|surface| count(workload, surface));
+        let [ours, peer, second] = [&OURS, &PEER, &SECOND].map(|by| count(workload, by));
         let (ours, peer, second) = (ours?, peer?, second?);
         let (to_peer, to_second) = (ours as f64 / peer as f64, ours as f64 / second as f64);
         println!(

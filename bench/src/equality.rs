@@ -4,7 +4,7 @@
 use crate::comparison::cases::Cases;
 use crate::comparison::compare::{Compare, Difference};
 use crate::given::random::Random;
-use crate::surface::{Surface, OURS, PEER, SECOND};
+use crate::implementations::{Implementation, OURS, PEER, SECOND};
 use crate::workloads::Workload;
 
 const SEED: u64 = 1;
@@ -19,8 +19,8 @@ pub fn check(workloads: &[Workload]) -> Result<u64, Difference> {
     Ok(pair(&PEER, workloads)? + pair(&SECOND, workloads)?)
 }
 
-fn pair(other: &Surface, workloads: &[Workload]) -> Result<u64, Difference> {
-    let compare = Compare::new([(OURS.name, &OURS), (other.name, other)]);
+fn pair(other: &Implementation, workloads: &[Workload]) -> Result<u64, Difference> {
+    let compare = Compare::new([(OURS.name, &OURS.unit), (other.name, &other.unit)]);
     let mut cases = Cases { compare, random: Random::new(SEED) };
     cases.run(CALLS)?;
     cases.run_largest_period()?;

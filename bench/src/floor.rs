@@ -6,8 +6,8 @@ use std::time::{Duration, Instant};
 
 use crate::batch::Batch;
 use crate::comparison::call::Call;
+use crate::implementations::{floor, OURS};
 use crate::rounds::Times;
-use crate::surface::{floor, OURS};
 use crate::workloads::{full_second, MOST_CELLS};
 
 /// Reads in a row, for the clock's own time not to count.

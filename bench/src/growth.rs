@@ -6,8 +6,8 @@ use std::path::Path;
 use std::time::Duration;
 
 use crate::comparison::call::Call;
+use crate::implementations::{OURS, PEER};
 use crate::rounds::times;
-use crate::surface::{OURS, PEER};
 use crate::workloads::{full_second, unmatched_cancel, MOST_CELLS};
 
 const LONG: Duration = Duration::from_millis(700);

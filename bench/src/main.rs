@@ -3,8 +3,8 @@
 //! bench            everything but the growth
 //! bench --quick    the agreement, and a glance at the times, which are not judged
 //! bench --compare  the agreement alone, for a machine whose times say nothing
-//! bench --growth FOLDER                  points for the plot, into this folder
-//! bench --count WORKLOAD SIZE SURFACE    one call, for callgrind
+//! bench --growth FOLDER                         points for the plot, into this folder
+//! bench --count WORKLOAD SIZE IMPLEMENTATION    one call, for callgrind
 
 mod batch;
 // The comparison and its inputs are those of second's tests, which use all of them.
@@ -18,11 +18,13 @@ mod floor;
 #[path = "../../second/tests/given/mod.rs"]
 mod given;
 mod growth;
+mod implementations;
 mod pin;
 mod ratios;
 mod report;
 mod rounds;
 mod second_c;
+#[path = "../../second/tests/surface/mod.rs"]
 mod surface;
 mod tables;
 mod workloads;
@@ -56,8 +58,8 @@ fn main() -> Result<(), Box<dyn Error>> {
             pin::pin();
             growth::save(Path::new(folder))?;
         }
-        ["--count", name, size, surface] => {
-            counts::make_once(&workloads, name, size, surface).ok_or("no such workload")?;
+        ["--count", name, size, implementation] => {
+            counts::make_once(&workloads, name, size, implementation).ok_or("no such workload")?;
         }
         _ => return Err("see the first lines of bench/src/main.rs".into()),
     }

@@ -2,8 +2,8 @@
 
 use std::time::Duration;
 
+use crate::implementations::{OURS, PEER, SECOND};
 use crate::rounds::{times, Times};
-use crate::surface::{OURS, PEER, SECOND};
 use crate::workloads::Workload;
 
 /// No workload above this against the peer.

@@ -1,11 +1,11 @@
-//! Rounds of one workload: in each round every surface makes the same batch, in turn, so that what
+//! Rounds of one workload: in each round every implementation makes the same batch, in turn, so that what
 //! else the machine does falls on all alike.
 
 use std::time::{Duration, Instant};
 
 use crate::batch::Batch;
 use crate::comparison::call::Call;
-use crate::surface::Surface;
+use crate::implementations::Implementation;
 
 /// Rounds that only warm caches and branch tables.
 const WARMING: usize = 3;
@@ -25,10 +25,10 @@ impl Times {
     }
 }
 
-/// The times of each surface, in rounds that take so long together.
+/// The times of each implementation, in rounds that take so long together.
 pub fn times<const COUNT: usize>(
     call: &Call,
-    surfaces: [&Surface; COUNT],
+    implementations: [&Implementation; COUNT],
     long: Duration,
 ) -> [Times; COUNT] {
     let mut batch = Batch::of(call);
@@ -41,7 +41,7 @@ pub fn times<const COUNT: usize>(
         for turn in 0..COUNT {
             // Who comes first changes from round to round.
             let which = (round + turn) % COUNT;
-            let time = batch.time(surfaces[which]);
+            let time = batch.time(implementations[which]);
             if round >= WARMING {
                 rounds[which].push(time);
             }

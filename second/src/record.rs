@@ -113,14 +113,14 @@ pub fn read(record: &[u8]) -> Reading {
 }
 
 /// Tests 4 (n only), 5, 6, 7, 8.
-pub fn write(request: &Request, items: &[u64], record: &mut [u8]) -> Done {
+pub fn write(request: Request, items: &[u64], record: &mut [u8]) -> Done {
     let judged = if items.len() > Record::MOST_ITEMS {
         Err(Refusal::RecordLength)
     } else {
         request.judge(&Layout::CURRENT, items)
     };
     judged
-        .map(|()| Record { request: *request, items: items.to_vec() }.encode())
+        .map(|()| Record { request, items: items.to_vec() }.encode())
         .and_then(|written| lay(&written, record))
         .into()
 }
@@ -157,7 +157,7 @@ mod tests {
 
     fn number(request: Request, items: &[u64]) -> u32 {
         let mut record = vec![0; Record::HEADER + Record::ITEM * items.len()];
-        let number = write(&request, items, &mut record).number;
+        let number = write(request, items, &mut record).number;
         let read = read(&Record { request, items: items.to_vec() }.encode()).number;
         assert_eq!(number, read, "the reader and the writer differ on {request:?}");
         number
@@ -166,7 +166,7 @@ mod tests {
     #[test]
     fn a_written_record_reads_back() {
         let mut record = [0xa5; 45];
-        assert_eq!(write(&start(IN_CELLS), &[7, 9], &mut record), Done { number: 0, length: 42 });
+        assert_eq!(write(start(IN_CELLS), &[7, 9], &mut record), Done { number: 0, length: 42 });
         assert_eq!(read(&record[..42]), Reading { number: 0, request: start(IN_CELLS), items: 2 });
         assert_eq!((item(&record, 0), item(&record, 1), item(&record, 2)), (7, 9, 0));
         assert_eq!(record[42..], [0xa5; 3]);

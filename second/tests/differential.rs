@@ -8,6 +8,8 @@ mod comparison;
 mod given;
 #[cfg(pws)]
 mod pws;
+#[cfg(pws)]
+mod surface;
 
 use comparison::broken::broken_units;
 use comparison::broken_conversions::broken_in_conversions;
@@ -112,31 +114,31 @@ fn second_keeps_demand_3() {
 #[cfg(pws)]
 #[test]
 fn the_c_library_agrees_with_second() {
-    assert_agrees("libpws.a", &pws::Pws::default());
+    assert_agrees("libpws.a", &pws::library());
 }
 
 #[cfg(pws)]
 #[test]
 fn segments_of_the_c_library_agree_with_second() {
-    assert_agrees_on_segments("libpws.a", &pws::Pws::default());
+    assert_agrees_on_segments("libpws.a", &pws::library());
 }
 
 #[cfg(pws)]
 #[test]
 fn conversions_of_the_c_library_agree_with_second() {
-    assert_agrees_on_conversions("libpws.a", &pws::Pws::default());
+    assert_agrees_on_conversions("libpws.a", &pws::library());
 }
 
 #[cfg(pws)]
 #[test]
 fn the_largest_period_is_the_same_in_the_c_library() {
-    assert_agrees_on_the_largest_period("libpws.a", &pws::Pws::default());
+    assert_agrees_on_the_largest_period("libpws.a", &pws::library());
 }
 
 #[cfg(pws)]
 #[test]
 fn the_c_library_keeps_demand_3() {
-    assert_keeps_demand_3("libpws.a", &pws::Pws::default());
+    assert_keeps_demand_3("libpws.a", &pws::library());
 }
 
 #[cfg(not(pws))]
@@ -253,5 +255,5 @@ fn replay() {
     let call = text.lines().find_map(Call::parse).expect("the file has a call's text in a line");
     say(&format!("second: {}", call.made_by(&SOUND)));
     #[cfg(pws)]
-    say(&format!("libpws.a: {}", call.made_by(&pws::Pws::default())));
+    say(&format!("libpws.a: {}", call.made_by(&pws::library())));
 }

@@ -70,7 +70,7 @@ fn each_record_version_has_its_own_limit() {
 
 #[test]
 fn the_writer_has_the_new_limit() {
-    let written = |period| write(&start(16, period, 2, 0), &[], &mut [0; Record::HEADER]).number;
+    let written = |period| write(start(16, period, 2, 0), &[], &mut [0; Record::HEADER]).number;
     assert_eq!([4095, 4096, 131_071, 131_072].map(written), [0, 0, 0, 6]);
 }
 
@@ -95,7 +95,7 @@ fn a_version_1_record_comes_back_as_version_2_with_the_same_fields() {
         let reading = read(&old);
         assert_eq!((reading.number, reading.request), (0, request));
         let mut written = [0xa5; Record::HEADER];
-        assert_eq!(write(&reading.request, &[], &mut written).number, 0);
+        assert_eq!(write(reading.request, &[], &mut written).number, 0);
         assert_eq!(written[..], encoded(request, Layout::VERSION_2));
         assert_eq!((written[..5].to_vec(), &written[5..]), (b"PWR\x00\x02".to_vec(), &old[5..]));
     }

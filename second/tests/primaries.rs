@@ -88,7 +88,7 @@ fn a_primary_with_a_larger_period_is_refused() {
     let larger = primary(16, Layout::CURRENT.largest_period.0 + 1, 2, 0);
     assert_eq!(Unit::empty().run(larger), Err(6));
     assert_eq!(read(&Record { request: larger, items: vec![] }.encode()).number, 6);
-    assert_eq!(write(&larger, &[], &mut [0; Record::HEADER]).number, 6);
+    assert_eq!(write(larger, &[], &mut [0; Record::HEADER]).number, 6);
 }
 
 #[test]
@@ -189,7 +189,7 @@ fn a_written_primary_reads_back_with_its_own_period_and_count() {
     for (period, requested) in [(5, 2), (0, 0), (0, 2), (4095, 65_535), (131_071, 1)] {
         let request = primary(16, period, requested, 0);
         let mut record = [0xa5; Record::HEADER];
-        assert_eq!(write(&request, &[], &mut record).number, 0);
+        assert_eq!(write(request, &[], &mut record).number, 0);
         assert_eq!(record, *Record { request, items: vec![] }.encode());
         assert_eq!((read(&record).number, read(&record).request), (0, request));
     }

@@ -245,7 +245,7 @@ fn seven_before_five(record: &[u8]) -> Reading {
     Reading { number, ..reading }
 }
 
-fn refuses_512_items(request: &Request, items: &[u64], record: &mut [u8]) -> Done {
+fn refuses_512_items(request: Request, items: &[u64], record: &mut [u8]) -> Done {
     if items.len() == 512 {
         refused(Refusal::RecordLength)
     } else {
@@ -253,7 +253,7 @@ fn refuses_512_items(request: &Request, items: &[u64], record: &mut [u8]) -> Don
     }
 }
 
-fn clears_the_rest(request: &Request, items: &[u64], record: &mut [u8]) -> Done {
+fn clears_the_rest(request: Request, items: &[u64], record: &mut [u8]) -> Done {
     let done = write(request, items, record);
     if done.number == 0 {
         record[done.length..].fill(0);

@@ -123,7 +123,7 @@ fn without_borrow(wait: u32) -> u32 {
     }
 }
 
-fn writes_an_hour(request: &Request, items: &[u64], record: &mut [u8]) -> Done {
+fn writes_an_hour(request: Request, items: &[u64], record: &mut [u8]) -> Done {
     let done = write(request, items, &mut record.to_vec());
     if request.period > OLD_LIMIT && [0, 8].contains(&done.number) {
         return refused(Refusal::RecordValue);
@@ -131,7 +131,7 @@ fn writes_an_hour(request: &Request, items: &[u64], record: &mut [u8]) -> Done {
     write(request, items, record)
 }
 
-fn writes_version_1(request: &Request, items: &[u64], record: &mut [u8]) -> Done {
+fn writes_version_1(request: Request, items: &[u64], record: &mut [u8]) -> Done {
     let done = write(request, items, record);
     let written = renumbered(&record[..done.length], 2, 1);
     record[..done.length].copy_from_slice(&written);

@@ -168,6 +168,6 @@ fn reads_stored(record: &[u8]) -> Reading {
     Reading { request: stored(reading.request), ..reading }
 }
 
-fn writes_stored(request: &Request, items: &[u64], record: &mut [u8]) -> Done {
-    write(&stored(*request), items, record)
+fn writes_stored(request: Request, items: &[u64], record: &mut [u8]) -> Done {
+    write(stored(request), items, record)
 }

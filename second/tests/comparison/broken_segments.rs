@@ -60,7 +60,7 @@ const READING: [(&str, Segment); 25] = [
     }),
     ("the first one is behind a length", |f, m, k| match segment(f, m, k) {
         part if k > 0 || part.length < 2 => part,
-        part => Part { start: 2, length: part.length - 2, ..part }.seen_in(f, m),
+        part => Part { start: 2, length: part.length - 2, ..part },
     }),
     ("a refused part has a place", |f, m, k| {
         let part = segment(f, m, k);
@@ -85,25 +85,24 @@ fn refused_if(chosen: bool, number: u32, sound: impl FnOnce() -> Part) -> Part {
 }
 
 /// Segment k of these places, without a judgement of the list.
-fn taken(first: &[u8], more: &[u8], k: usize, places: &[Range<usize>]) -> Part {
+fn taken(first: &[u8], k: usize, places: &[Range<usize>]) -> Part {
     let accepted = |buffer, place: Range<usize>| Part {
         buffer,
         start: place.start,
         length: place.len(),
         ..Part::default()
     };
-    let part = match k.checked_sub(1).map(|k| places.get(k)) {
+    match k.checked_sub(1).map(|k| places.get(k)) {
         None => accepted(0, 0..first.len()),
         Some(Some(place)) => accepted(1, place.clone()),
-        Some(None) => return Part::refused(12),
-    };
-    part.seen_in(first, more)
+        Some(None) => Part::refused(12),
+    }
 }
 
 /// Without a judgement of the list if so chosen.
 fn taken_if(first: &[u8], more: &[u8], k: usize, chosen: bool) -> Part {
     if chosen {
-        taken(first, more, k, &whole(more))
+        taken(first, k, &whole(more))
     } else {
         segment(first, more, k)
     }
@@ -112,16 +111,14 @@ fn taken_if(first: &[u8], more: &[u8], k: usize, chosen: bool) -> Part {
 fn is_little_endian(first: &[u8], more: &[u8], k: usize) -> Part {
     let places = places(more, u16::from_le_bytes);
     let damaged = places.last().map_or(0, |place| place.end) != more.len();
-    refused_if(damaged, 10, || {
-        refused_if(places.len() > MOST, 11, || taken(first, more, k, &places))
-    })
+    refused_if(damaged, 10, || refused_if(places.len() > MOST, 11, || taken(first, k, &places)))
 }
 
 fn counted(first: &[u8], more: &[u8], k: usize, width: u32) -> Part {
     let mut places = whole(more);
     places.truncate(places.len() % (1 << width));
     if ends(more) == more.len() && places.len() <= MOST {
-        taken(first, more, k, &places)
+        taken(first, k, &places)
     } else {
         segment(first, more, k)
     }

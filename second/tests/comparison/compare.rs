@@ -66,7 +66,7 @@ impl<'a> Compare<'a> {
         answer: Vec<u8>,
     ) -> Result<(Done, Vec<u8>, Vec<u8>), Difference> {
         match self.call(Call::Apply { table, record: record.to_vec(), answer })? {
-            Outcome::Applied { done, table, answer } => Ok((done, table, answer)),
+            Outcome::Apply { returned, table, answer } => Ok((returned, table, answer)),
             other => Err(format!("applying had the outcome {other}")),
         }
     }
@@ -81,7 +81,7 @@ impl<'a> Compare<'a> {
 
     pub fn segment(&mut self, first: &[u8], more: &[u8], k: usize) -> Result<Part, Difference> {
         match self.call(Call::Segment { first: first.to_vec(), more: more.to_vec(), k })? {
-            Outcome::Segment { part } => Ok(part),
+            Outcome::Segment { returned } => Ok(returned),
             other => Err(format!("reading a segment had the outcome {other}")),
         }
     }
@@ -94,7 +94,7 @@ impl<'a> Compare<'a> {
         list: Vec<u8>,
     ) -> Result<(Done, Vec<u8>), Difference> {
         match self.call(Call::Pack { bytes: bytes.to_vec(), lengths: lengths.to_vec(), list })? {
-            Outcome::Packed { done, list } => Ok((done, list)),
+            Outcome::Pack { returned, list } => Ok((returned, list)),
             other => Err(format!("packing had the outcome {other}")),
         }
     }
@@ -102,7 +102,7 @@ impl<'a> Compare<'a> {
     /// The buffer as the call leaves it.
     pub fn convert(&mut self, old: &[u8], table: Vec<u8>) -> Result<Vec<u8>, Difference> {
         match self.call(Call::Convert { old: old.to_vec(), table })? {
-            Outcome::Converted { table, .. } => Ok(table),
+            Outcome::Convert { table, .. } => Ok(table),
             other => Err(format!("converting had the outcome {other}")),
         }
     }

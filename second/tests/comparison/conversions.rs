@@ -3,10 +3,11 @@
 use second::request::SECOND;
 use second::{apply_in, Broadcasts, Cell, Head, Layout, Place, Record, Seconds, Table};
 
-use super::call::{hex, Call};
+use super::call::Call;
 use super::cases::{Cases, Compared};
 use super::compare::Difference;
 use super::tables::{table, table_in};
+use super::texts::hex;
 use super::wrong_tables::WrongTables;
 use crate::given::heads::{count, heads};
 use crate::given::records::{of_kind, record};

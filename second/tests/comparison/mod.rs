@@ -10,6 +10,7 @@ pub mod call;
 pub mod cases;
 pub mod compare;
 mod conversions;
+pub mod entry_points;
 pub mod lists;
 pub mod part;
 mod periods;
@@ -21,6 +22,7 @@ mod starts;
 pub mod tables;
 #[cfg(test)]
 mod tests;
+mod texts;
 pub mod unit;
 mod wrong_places;
 pub mod wrong_tables;

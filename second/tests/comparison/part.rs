@@ -1,6 +1,8 @@
-//! A part of lent buffers: where it lies, as the C surface tells it, and its bytes.
+//! A part of lent buffers: where it lies, and its bytes.
 
-#[derive(Clone, Debug, Default, PartialEq, Eq)]
+/// As C has it.
+#[repr(C)]
+#[derive(Clone, Copy, Debug, Default, PartialEq, Eq)]
 pub struct Part {
     /// 0, or the refusal's number and everything else 0.
     pub number: u32,
@@ -8,7 +10,6 @@ pub struct Part {
     pub buffer: u32,
     pub start: usize,
     pub length: usize,
-    pub bytes: Vec<u8>,
 }
 
 impl Part {
@@ -16,30 +17,37 @@ impl Part {
         Part { number, ..Part::default() }
     }
 
-    /// With the bytes at the place that is told; none where it is outside of its buffer.
-    pub fn seen_in(self, first: &[u8], more: &[u8]) -> Part {
+    /// The bytes at the place that is told; none where it is outside of its buffer.
+    pub fn bytes<'a>(&self, first: &'a [u8], more: &'a [u8]) -> &'a [u8] {
         let behind = [first, more].get(self.buffer as usize).and_then(|it| it.get(self.start..));
-        let bytes = behind.and_then(|behind| behind.get(..self.length)).unwrap_or_default();
-        Part { bytes: bytes.to_vec(), ..self }
+        behind.and_then(|behind| behind.get(..self.length)).unwrap_or_default()
     }
+}
+
+/// The second implementation's segment, of copies with a byte between them: so the end of the one
+/// is not the start of the other.
+pub fn segment(first: &[u8], more: &[u8], k: usize) -> Part {
+    let lent = [first, &[0], more].concat();
+    segment_of_lent(&lent[..first.len()], &lent[first.len() + 1..], k)
 }
 
 /// The second implementation's segment. Its address alone tells where it lies, so that neither a
 /// copy nor the same bytes at another place pass for "the caller's own bytes".
-pub fn segment(first: &[u8], more: &[u8], k: usize) -> Part {
-    // With a byte between them, the end of the one is not the start of the other.
-    let lent = [first, &[0], more].concat();
-    let (lent_first, lent_more) = (&lent[..first.len()], &lent[first.len() + 1..]);
-    let part = match second::segment(lent_first, lent_more, k) {
+pub fn segment_of_lent(first: &[u8], more: &[u8], k: usize) -> Part {
+    let part = match second::segment(first, more, k) {
         Ok(part) => part,
         Err(refusal) => return Part::refused(refusal.number()),
     };
-    let offset_in = |buffer: &[u8]| {
-        let offset = part.as_ptr().addr().checked_sub(buffer.as_ptr().addr())?;
-        (offset + part.len() <= buffer.len()).then_some(offset)
+    let (buffer, start) = match (offset(part, first), offset(part, more)) {
+        (Some(start), _) => (0, start),
+        (None, Some(start)) => (1, start),
+        (None, None) => panic!("the part lies in neither buffer"),
     };
-    let places = [offset_in(lent_first), offset_in(lent_more)];
-    let buffer = places.iter().position(Option::is_some).expect("the part lies in a lent buffer");
-    let start = places[buffer].expect("the part lies in this buffer");
-    Part { number: 0, buffer: buffer as u32, start, length: part.len(), bytes: part.to_vec() }
+    Part { number: 0, buffer, start, length: part.len() }
+}
+
+/// Where the part begins in the buffer, if it lies there.
+fn offset(part: &[u8], buffer: &[u8]) -> Option<usize> {
+    let offset = part.as_ptr().addr().checked_sub(buffer.as_ptr().addr())?;
+    (offset + part.len() <= buffer.len()).then_some(offset)
 }

@@ -1,47 +1,42 @@
 //! What the documents promise of the bytes of every call, whatever happens in a cell: a look of its
 //! own at outcomes on which two units agree.
 
-use second::{Area, Cell, Done, Head, Layout, Record, Table};
+use second::{Area, Cell, Done, Head, Layout, Reading, Record, Table};
 
 use super::call::{Call, Outcome};
 use super::part::Part;
+use super::texts::Returned;
 
 /// "A refusal returns its number and length 0, and nothing is written", "bytes beyond it stay", and
 /// only the bytes "of a reached cell may be written".
 pub fn are_kept(call: &Call, outcome: &Outcome) -> bool {
-    match (call, outcome) {
-        (Call::Build { table: before, .. }, Outcome::Built { done, table }) => {
-            rest_stays(done, before, table)
+    let own_are_kept = || match (call, outcome) {
+        (_, Outcome::Panicked) => false,
+        (Call::Apply { table: before, record, .. }, Outcome::Apply { returned, table, .. }) => {
+            unreached_stays(returned, before, record, table)
         }
-        (Call::Write { record: before, .. }, Outcome::Written { done, record }) => {
-            rest_stays(done, before, record)
+        (Call::Convert { old, .. }, Outcome::Convert { returned, table }) => {
+            all_is_carried(returned, old, table)
         }
-        (
-            Call::Apply { table: before, record, answer },
-            Outcome::Applied { done, table, answer: after },
-        ) => rest_stays(done, answer, after) && unreached_stays(done, before, record, table),
-        (_, Outcome::Read { reading }) => {
-            let refused = second::Reading { number: reading.number, ..Default::default() };
-            reading.number == 0 || *reading == refused
+        (_, Outcome::Read { returned }) => {
+            let refused = Reading { number: returned.number, ..Reading::default() };
+            returned.number == 0 || *returned == refused
         }
-        (Call::Pack { list: before, .. }, Outcome::Packed { done, list }) => {
-            rest_stays(done, before, list)
+        (Call::Segment { first, more, k }, Outcome::Segment { returned }) => {
+            lies_where_told(first, more, *k, returned)
         }
-        (Call::Convert { old, table: before }, Outcome::Converted { done, table }) => {
-            rest_stays(done, before, table) && all_is_carried(done, old, table)
-        }
-        (Call::Segment { first, more, k }, Outcome::Segment { part }) => {
-            lies_where_told(first, more, *k, part)
-        }
-        (_, outcome) => *outcome != Outcome::Panicked,
-    }
+        _ => true,
+    };
+    rest_stays(call, outcome) && own_are_kept()
 }
 
 /// The buffer behind the returned length is as before; that is all of it after a refusal.
-fn rest_stays(done: &Done, before: &[u8], after: &[u8]) -> bool {
+fn rest_stays(call: &Call, outcome: &Outcome) -> bool {
+    let Some(done) = outcome.returned().and_then(Returned::done) else { return true };
     let length = if done.number == 0 { done.length } else { 0 };
-    length == done.length
-        && before.get(length..).is_some_and(|rest| Some(rest) == after.get(length..))
+    let [before, after] = [call.written(), outcome.written()]
+        .map(|mut written| written.pop().and_then(|(_, bytes)| bytes.get(length..)));
+    length == done.length && before.is_some() && before == after
 }
 
 /// The table is legal and as before, but for the places of reached cells.
@@ -75,17 +70,17 @@ fn all_is_carried(done: &Done, old: &[u8], table: &[u8]) -> bool {
 /// "A refusal hands back an empty part"; any other is the first buffer, whole, or lies in the list
 /// behind its own length.
 fn lies_where_told(first: &[u8], more: &[u8], k: usize, part: &Part) -> bool {
-    let Part { number, buffer, start, length, bytes } = part;
-    if *number != 0 {
-        return *part == Part::refused(*number);
+    let Part { number, buffer, start, length } = *part;
+    if number != 0 {
+        return *part == Part::refused(number);
     }
     if k == 0 {
-        return (*buffer, *start, *length) == (0, 0, first.len()) && bytes == first;
+        return (buffer, start, length) == (0, 0, first.len());
     }
-    let behind_length = |end: usize| {
-        let told = more.get(start.checked_sub(2)?..*start)?;
+    let told = start.checked_sub(2).and_then(|before| more.get(before..start));
+    let behind_length = told.is_some_and(|told| {
         let lengths = [told[0], told[1]].map(usize::from);
-        Some(lengths[0] * 256 + lengths[1] == *length && more.get(*start..end)? == bytes)
-    };
-    *buffer == 1 && start.checked_add(*length).and_then(behind_length) == Some(true)
+        lengths[0] * 256 + lengths[1] == length
+    });
+    buffer == 1 && behind_length && part.bytes(first, more).len() == length
 }

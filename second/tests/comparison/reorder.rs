@@ -3,9 +3,10 @@
 
 use second::{apply, Answer, Area, Head, Record};
 
-use super::call::{hex, Call, Outcome};
+use super::call::{Call, Outcome};
 use super::compare::Difference;
 use super::tables::table;
+use super::texts::hex;
 use super::unit::Unit;
 use crate::given::heads::heads;
 use crate::given::random::Random;
@@ -95,11 +96,11 @@ fn run(
         let Step { record, answer, .. } = &steps[*index];
         let call = Call::Apply { table, record: record.clone(), answer: answer.clone() };
         let outcome = call.made_by(unit);
-        let Outcome::Applied { done, table: left, answer } = outcome else {
+        let Outcome::Apply { returned, table: left, answer } = outcome else {
             unreachable!("applying has no other outcome");
         };
         table = left;
-        outcomes[*index] = Some(Outcome::Applied { done, table: Vec::new(), answer });
+        outcomes[*index] = Some(Outcome::Apply { returned, table: Vec::new(), answer });
     }
     (table, outcomes)
 }

@@ -75,7 +75,7 @@ impl Cases<'_> {
         let first = self.first();
         let mut read = Segments::new();
         for k in 0..=segments.len() {
-            read.push(self.compare.segment(&first, &list, k)?.bytes);
+            read.push(self.compare.segment(&first, &list, k)?.bytes(&first, &list).to_vec());
         }
         if read[0] != first || read[1..] != segments[..] {
             return Err(told("reading gives not each segment back", segments));
