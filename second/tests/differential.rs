@@ -21,26 +21,36 @@ use comparison::reorder::{reorder, Reordered};
 use comparison::unit::{Functions, Unit, SOUND};
 use given::random::{say, seed, Random};
 
-const CALLS: u64 = 300_000;
-const CALLS_ON_SEGMENTS: u64 = 60_000;
-const CALLS_ON_CONVERSIONS: u64 = 60_000;
 /// A single fault must show within so many calls.
 const CALLS_TO_FIND_A_FAULT: u64 = 30_000;
 const SEQUENCES: usize = 2_000;
 
 type Named<'a> = (&'a str, &'a dyn Unit);
-/// Makes at least so many calls.
-type Run = fn(&mut Cases, u64) -> Compared;
-const DOCUMENT_01: Run = |cases, calls| cases.run(calls);
-const SEGMENTS: Run = |cases, calls| cases.run_segments(calls);
-const CONVERSIONS: Run = |cases, calls| cases.run_conversions(calls);
+
+/// One kind of calls on two units.
+#[derive(Clone, Copy)]
+struct Run {
+    /// What it adds to the name of a comparison.
+    of: &'static str,
+    /// As many as show that two units agree.
+    calls: u64,
+    /// Makes at least so many calls.
+    make: fn(&mut Cases, u64) -> Compared,
+}
+
+const DOCUMENT_01: Run = Run { of: "", calls: 300_000, make: |cases, calls| cases.run(calls) };
+const SEGMENTS: Run =
+    Run { of: ", segments", calls: 60_000, make: |cases, calls| cases.run_segments(calls) };
+const CONVERSIONS: Run =
+    Run { of: ", conversions", calls: 60_000, make: |cases, calls| cases.run_conversions(calls) };
 /// As many calls as that takes.
-const LARGEST_PERIOD: Run = |cases, _| cases.run_largest_period();
+const LARGEST_PERIOD: Run =
+    Run { of: ", the largest period", calls: 0, make: |cases, _| cases.run_largest_period() };
 
 /// How many calls were made, and the first difference if there is one.
 fn compared(run: Run, units: [Named; 2], seed: u64, calls: u64) -> (u64, Compared) {
     let mut cases = Cases { compare: Compare::new(units), random: Random::new(seed) };
-    let outcome = run(&mut cases, calls);
+    let outcome = (run.make)(&mut cases, calls);
     (cases.compare.calls, outcome)
 }
 
@@ -54,25 +64,10 @@ fn keeps_demand_3(unit: &dyn Unit, seed: u64) -> Result<Reordered, Difference> {
     Ok(sum)
 }
 
-fn assert_agrees(name: &str, unit: &dyn Unit) {
-    assert_agrees_in(name, DOCUMENT_01, unit, CALLS);
-}
-
-fn assert_agrees_on_segments(name: &str, unit: &dyn Unit) {
-    assert_agrees_in(&format!("{name}, segments"), SEGMENTS, unit, CALLS_ON_SEGMENTS);
-}
-
-fn assert_agrees_on_conversions(name: &str, unit: &dyn Unit) {
-    assert_agrees_in(&format!("{name}, conversions"), CONVERSIONS, unit, CALLS_ON_CONVERSIONS);
-}
-
-fn assert_agrees_on_the_largest_period(name: &str, unit: &dyn Unit) {
-    assert_agrees_in(&format!("{name}, the largest period"), LARGEST_PERIOD, unit, 0);
-}
-
-fn assert_agrees_in(name: &str, run: Run, unit: &dyn Unit, calls: u64) {
+fn assert_agrees(name: &str, run: Run, unit: &dyn Unit) {
+    let name = &format!("{name}{}", run.of);
     let seed = seed(name);
-    let (calls, outcome) = compared(run, [("second", &SOUND), (name, unit)], seed, calls);
+    let (calls, outcome) = compared(run, [("second", &SOUND), (name, unit)], seed, run.calls);
     say(&format!("{name}: {calls} calls compared"));
     if let Err(difference) = outcome {
         panic!("{difference}");
@@ -88,22 +83,22 @@ fn assert_keeps_demand_3(name: &str, unit: &dyn Unit) {
 
 #[test]
 fn second_agrees_with_itself() {
-    assert_agrees("second", &SOUND);
+    assert_agrees("second", DOCUMENT_01, &SOUND);
 }
 
 #[test]
 fn segments_of_second_agree_with_itself() {
-    assert_agrees_on_segments("second", &SOUND);
+    assert_agrees("second", SEGMENTS, &SOUND);
 }
 
 #[test]
 fn conversions_of_second_agree_with_itself() {
-    assert_agrees_on_conversions("second", &SOUND);
+    assert_agrees("second", CONVERSIONS, &SOUND);
 }
 
 #[test]
 fn the_largest_period_is_the_same_in_second() {
-    assert_agrees_on_the_largest_period("second", &SOUND);
+    assert_agrees("second", LARGEST_PERIOD, &SOUND);
 }
 
 #[test]
@@ -114,25 +109,25 @@ fn second_keeps_demand_3() {
 #[cfg(pws)]
 #[test]
 fn the_c_library_agrees_with_second() {
-    assert_agrees("libpws.a", &pws::library());
+    assert_agrees("libpws.a", DOCUMENT_01, &pws::library());
 }
 
 #[cfg(pws)]
 #[test]
 fn segments_of_the_c_library_agree_with_second() {
-    assert_agrees_on_segments("libpws.a", &pws::library());
+    assert_agrees("libpws.a", SEGMENTS, &pws::library());
 }
 
 #[cfg(pws)]
 #[test]
 fn conversions_of_the_c_library_agree_with_second() {
-    assert_agrees_on_conversions("libpws.a", &pws::library());
+    assert_agrees("libpws.a", CONVERSIONS, &pws::library());
 }
 
 #[cfg(pws)]
 #[test]
 fn the_largest_period_is_the_same_in_the_c_library() {
-    assert_agrees_on_the_largest_period("libpws.a", &pws::library());
+    assert_agrees("libpws.a", LARGEST_PERIOD, &pws::library());
 }
 
 #[cfg(pws)]
@@ -147,8 +142,8 @@ fn the_c_library_is_skipped() {
     say("libpws.a: SKIPPED, for PWS_LIB_DIR names no folder with a libpws.a");
 }
 
-fn assert_each_is_found(test: &str, run: Run, broken: Vec<(&str, Functions)>) {
-    let seed = seed(test);
+fn assert_each_is_found(run: Run, broken: Vec<(&str, Functions)>) {
+    let seed = seed(&format!("faults{}", run.of));
     for (name, unit) in broken {
         let units: [Named; 2] = [("second", &SOUND), (name, &unit)];
         let (calls, outcome) = compared(run, units, seed, CALLS_TO_FIND_A_FAULT);
@@ -159,17 +154,17 @@ fn assert_each_is_found(test: &str, run: Run, broken: Vec<(&str, Functions)>) {
 
 #[test]
 fn each_single_fault_is_found() {
-    assert_each_is_found("faults", DOCUMENT_01, broken_units());
+    assert_each_is_found(DOCUMENT_01, broken_units());
 }
 
 #[test]
 fn each_single_fault_in_segments_is_found() {
-    assert_each_is_found("faults, segments", SEGMENTS, broken_in_segments());
+    assert_each_is_found(SEGMENTS, broken_in_segments());
 }
 
 #[test]
 fn each_single_fault_in_conversions_is_found() {
-    assert_each_is_found("faults, conversions", CONVERSIONS, broken_in_conversions());
+    assert_each_is_found(CONVERSIONS, broken_in_conversions());
 }
 
 fn broken_unit(fault: &str) -> Functions {
