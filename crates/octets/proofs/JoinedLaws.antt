@@ -42,7 +42,7 @@ or-digit r s x y hr hs =
     ap₂ bitOr a b ∙ or-block 8 x y r s hr hs ∙ c
 
 -- the bytes turned round, before or after
-pub turned-or : (w a b : ℕ) → a < 256 ^ w → b < 256 ^ w → turned w (bitOr a b) ≡ bitOr (turned w a) (turned w b)
+turned-or : (w a b : ℕ) → a < 256 ^ w → b < 256 ^ w → turned w (bitOr a b) ≡ bitOr (turned w a) (turned w b)
 unfolding turned toBe le
 turned-or zero a b ha hb = sym (or-zero-l 0)
 turned-or (suc w) a b ha hb =

@@ -13,7 +13,6 @@ use Rattle.octets.proofs.turned64.Reads as turned64
 use Rattle.octets.proofs.says64.Reads as says64
 use Rattle.octets.proofs.put8.Reads as put8
 use Rattle.octets.proofs.put16.Reads as put16
-use Rattle.octets.proofs.put24.Reads as put24
 use Rattle.octets.proofs.put32.Reads as put32
 use Rattle.octets.proofs.put64.Reads as put64
 use Rattle.octets.proofs.copy.Reads as copy
@@ -58,9 +57,6 @@ put8-once κ args r s e f = one-outcome
 
 pub put16-once : Settles put16.Learnt (λ κ r e. now (e .0))
 put16-once κ args r s e f = one-outcome
-
-pub put24-once : Settles put24.Learnt (λ κ r e. now (e .0))
-put24-once κ args r s e f = one-outcome
 
 pub put32-once : Settles put32.Learnt (λ κ r e. now (e .0))
 put32-once κ args r s e f = one-outcome

@@ -16,7 +16,7 @@ use Rattle.octets.proofs.NumbersLaws.{length-toBe}
 -- ---- in the second part
 
 module _ (a x : List ℕ) (at : ℕ) (e : length a ≡ at) where
-  pub getD-behind : (j : ℕ) → getD (a ++ x) (at + j) 0 ≡ getD x j 0
+  getD-behind : (j : ℕ) → getD (a ++ x) (at + j) 0 ≡ getD x j 0
   getD-behind j = rw (← e) (getD-append-add a x j 0)
 
   pub gets-behind : (m j : ℕ) → gets (a ++ x) (at + j) m ≡ gets x j m

@@ -20,7 +20,7 @@ use Rattle.octets.proofs.NumbersLaws.{pow-pos256, length-toBe, bytes-to
 
 -- ---- loaded
 
-pub le-append : (us vs : List ℕ) → le (us ++ vs) ≡ le us + 256 ^ length us * le vs
+le-append : (us vs : List ℕ) → le (us ++ vs) ≡ le us + 256 ^ length us * le vs
 unfolding le
 le-append [] vs = omega arith
 le-append (u ∷ us) vs = rw (le-append us vs, pow-succ') (simp (mul-add, mul-assoc, add-assoc))
@@ -44,7 +44,7 @@ le-lt (b ∷ bs) h =
 
 -- ---- stored
 
-pub length-toLe : (w v : ℕ) → length (toLe w v) ≡ w
+length-toLe : (w v : ℕ) → length (toLe w v) ≡ w
 unfolding toLe
 length-toLe zero v = refl
 length-toLe (suc w) v = ap suc (length-toLe w (v / 256))
@@ -59,7 +59,7 @@ toLe-le (b ∷ bs) h =
     rw (lo, hi, toLe-le bs (λ i. h (suc i)))
 
 -- the bytes of a number, in two parts
-pub toLe-add : (u w v : ℕ) → toLe u (v % 256 ^ u) ++ toLe w (v / 256 ^ u) ≡ toLe (u + w) v
+toLe-add : (u w v : ℕ) → toLe u (v % 256 ^ u) ++ toLe w (v / 256 ^ u) ≡ toLe (u + w) v
 unfolding toLe
 toLe-add zero w v = rw (div-one, zero-add)
 toLe-add (suc u) w v =
@@ -98,7 +98,7 @@ unfolding turned le toBe
 turned-one v = rw div-one (omega arith)
 
 -- loaded and then turned: the big-endian number
-pub turned-le : (bs : List ℕ) → Bytes bs → turned (length bs) (le bs) ≡ be bs
+turned-le : (bs : List ℕ) → Bytes bs → turned (length bs) (le bs) ≡ be bs
 unfolding le be
 turned-le [] h = turned-none
 turned-le (b ∷ bs) h =

@@ -1,4 +1,4 @@
-// Big-endian numbers and runs of bytes in lent slices. A number is one load or store and a turn of its bytes; one of 24 bits is two.
+// Big-endian numbers and runs of bytes in lent slices. A number is one load or store and a turn of its bytes; one of 24 bits is read by two loads.
 mod moved;
 mod turned;
 
@@ -104,16 +104,6 @@ pub fn put16(s: &mut [u8], at: usize, x: u16)
     ensures { λ _. ⌜ now (s .exit) ≡ sets (now (s .entry)) at (toBe 2 x) ⌝ }
 {
     store16(s, at, turn16(x));
-}
-
-// A number of more than 24 bits would lose its upper byte, so the caller shows that it has none.
-pub fn put24(s: &mut [u8], at: usize, x: u32)
-    requires { ⌜ at + 3 ≤ length (now s) ⌝ }
-    requires { ⌜ x < 16777216 ⌝ }
-    ensures { λ _. ⌜ now (s .exit) ≡ sets (now (s .entry)) at (toBe 3 x) ⌝ }
-{
-    put16(s, at, (x / 256) as u16);
-    put8(s, at + 2, (x % 256) as u8);
 }
 
 pub fn put32(s: &mut [u8], at: usize, x: u32)

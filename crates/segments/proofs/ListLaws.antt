@@ -103,7 +103,7 @@ behind-length s rest =
 own-packed : (s rest : List ℕ) → Sayable s → firstOf (segmentBytes s ++ rest) ≡ s
 own-packed s rest h = ap (λ (n : ℕ). take n (drop lengthSize (segmentBytes s ++ rest))) (first-packed s rest h) ∙ behind-length s rest
 
-pub packed-whole-first : (s rest : List ℕ) → Sayable s → segmentsOf (segmentBytes s ++ rest) ≡ s ∷ segmentsOf rest
+packed-whole-first : (s rest : List ℕ) → Sayable s → segmentsOf (segmentBytes s ++ rest) ≡ s ∷ segmentsOf rest
 packed-whole-first s rest h =
     let fits : firstEnd (segmentBytes s ++ rest) ≤ length (segmentBytes s ++ rest) =
     rw (length-append (segmentBytes s) rest, length-segment s, first-packed s rest h) (omega arith) in
@@ -122,7 +122,7 @@ packed-whole {ss} h = eq-eqb (length (listBytes (segmentsOf (listBytes ss)))) (l
 -- ---- read, then packed
 
 -- where the whole segments of a list end
-abbrev pub endOf : List ℕ → ℕ
+abbrev endOf : List ℕ → ℕ
 endOf l = length (listBytes (segmentsOf l))
 
 first-back : (l : List ℕ) → Bytes l → firstEnd l ≤ length l → segmentBytes (firstOf l) ≡ take (firstEnd l) l

@@ -32,7 +32,7 @@ module _ (n : ℕ) (ns : List ℕ) (b : ℕ) where
   unfolding lengthsFit total every
   fit-next short h = rw (less-left n (total ns) b h, le-leb n longestSegment short)
 
-  pub fit-too-long : longestSegment < n → lengthsFit (n ∷ ns) b ≡ false
+  fit-too-long : longestSegment < n → lengthsFit (n ∷ ns) b ≡ false
   unfolding lengthsFit total every
   fit-too-long h = rw (lt-leb n longestSegment h) (never (eqb (n + total ns) b))
     where
@@ -40,7 +40,7 @@ module _ (n : ℕ) (ns : List ℕ) (b : ℕ) where
       never true = refl
       never false = refl
 
-  pub fit-too-many : b < n → lengthsFit (n ∷ ns) b ≡ false
+  fit-too-many : b < n → lengthsFit (n ∷ ns) b ≡ false
   unfolding lengthsFit total
   fit-too-many h = rw (ne-eqb (n + total ns) b (λ (q : n + total ns ≡ b). omega arith))
 

@@ -45,7 +45,7 @@ module _ (bytes lengths : List ℕ) (room : ℕ) (v : packVerdict bytes lengths 
         holds = leb-true (length (listBytes (cutAt lengths bytes))) room (unless-accepted (leb (length (listBytes (cutAt lengths bytes))) room) ShortBuffer (b .1));
       }
 
-  pub pack-size : length (listBytes (cutAt lengths bytes)) ≡ lengthSize * length lengths + length bytes
+  pack-size : length (listBytes (cutAt lengths bytes)) ≡ lengthSize * length lengths + length bytes
   pack-size = length-cut lengths bytes (pack-says .fit)
 
   pub pack-ready : ToPack bytes lengths room

@@ -77,13 +77,13 @@ module _ (bytes lengths buffer : List ℕ) (x : Writing) (b : List ℕ) (promise
   says = pack-says bytes lengths (length buffer) verdict
 
   -- the bytes of the list that was written
-  pub packed-list : take (writingLength x) b ≡ listBytes (cutAt lengths bytes)
+  packed-list : take (writingLength x) b ≡ listBytes (cutAt lengths bytes)
   unfolding packed fill
   packed-list =
       let whole : filledBy x b ≡ fill Accepted (listBytes (cutAt lengths bytes)) buffer = promise ∙ ap (λ v. fill v (listBytes (cutAt lengths bytes)) buffer) verdict in
       ap (λ (f : Filled). take (f .length) (f .buffer)) whole ∙ take-sets-front buffer (listBytes (cutAt lengths bytes)) (says .holds)
 
-  pub packed-read : segmentsOf (take (writingLength x) b) ≡ cutAt lengths bytes
+  packed-read : segmentsOf (take (writingLength x) b) ≡ cutAt lengths bytes
   packed-read = ap segmentsOf packed-list ∙ segments-packed (cut-sayable lengths bytes (says .fit))
 
   -- every k up to the number of lengths is accepted, and its segment is the one that was given; the first buffer's own for 0

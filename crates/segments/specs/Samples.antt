@@ -7,20 +7,20 @@ use Rattle.rules.specs.Applied.{Filled}
 use Rattle.segments.specs.Segments.{segmentOf, liesAt, packed}
 
 -- the first SIB message of every sample
-abbrev pub first : List ℕ
+abbrev first : List ℕ
 first = 1 ∷ 2 ∷ 3 ∷ []
 
 -- three more: two bytes, none, one
-abbrev pub three : List ℕ
+abbrev three : List ℕ
 three = 0 ∷ 2 ∷ 10 ∷ 20 ∷ 0 ∷ 0 ∷ 0 ∷ 1 ∷ 30 ∷ []
 
 -- n segments without bytes
-abbrev pub empty : ℕ → List ℕ
+abbrev empty : ℕ → List ℕ
 empty n = replicate (2 * n) 0
 
 -- ---- asked for a segment: the list, k, the number and the bytes that are handed back
 
-pub record Asked : Type 0 where
+record Asked : Type 0 where
   pub list : List ℕ
   pub k : ℕ
   pub number : ℕ
@@ -29,11 +29,11 @@ pub record Asked : Type 0 where
 abbrev asked : List ℕ → ℕ → ℕ → List ℕ → Asked
 asked list k number part = record { list = list; k = k; number = number; part = part }
 
-abbrev pub AllRead : List Asked → Type 0
+abbrev AllRead : List Asked → Type 0
 AllRead [] = Unit {0}
 AllRead (x ∷ xs) = ((liesAt first (x .list) (x .k) .number ≡ x .number) × (segmentOf first (x .list) (x .k) ≡ x .part)) × AllRead xs
 
-abbrev pub reads : List Asked
+abbrev reads : List Asked
 reads =
     -- an empty list is legal
     asked [] 0 0 first
@@ -57,7 +57,7 @@ reads =
 
 -- ---- packed: the bytes, the lengths, a buffer, and what is left
 
-pub record Given : Type 0 where
+record Given : Type 0 where
   pub bytes : List ℕ
   pub lengths : List ℕ
   pub list : List ℕ
@@ -69,11 +69,11 @@ given bytes lengths list leaves = record { bytes = bytes; lengths = lengths; lis
 abbrev refused : ℕ → List ℕ → Filled
 refused number list = record { number = number; length = 0; buffer = list }
 
-abbrev pub AllPack : List Given → Type 0
+abbrev AllPack : List Given → Type 0
 AllPack [] = Unit {0}
 AllPack (x ∷ xs) = (packed (x .bytes) (x .lengths) (x .list) ≡ x .leaves) × AllPack xs
 
-abbrev pub packs : List Given
+abbrev packs : List Given
 packs =
     given (10 ∷ 20 ∷ 30 ∷ []) (2 ∷ 0 ∷ 1 ∷ []) (replicate 11 9) (record { number = 0; length = 9; buffer = three ++ replicate 2 9 })
     ∷ given [] [] [] (record { number = 0; length = 0; buffer = [] })

@@ -68,7 +68,7 @@ segmentVerdict more k =
     then refuseUnless (leb k (length (segmentsOf more))) NoSuchSegment
 
 -- "A refusal hands back an empty part"
-abbrev pub unlessRefused : Verdict → List ℕ → List ℕ
+abbrev unlessRefused : Verdict → List ℕ → List ℕ
 unlessRefused Accepted s = s
 unlessRefused (Refused x) s = []
 
