@@ -8,11 +8,10 @@ use native.Mathlib.Omega.{arith}
 use lib.ListN.{length, getD, take, drop, set, length-append, length-drop, length-map, take-append-drop}
 use lib.Seq.{length-take-le, take-at, drop-at}
 use Rattle.octets.specs.Runs.{gets, Bytes}
-use Rattle.octets.specs.Fields.{size, numbers}
+use Rattle.octets.specs.Fields.{size, numbers, fieldOf}
 use Rattle.octets.proofs.RunsLaws.{length-pieces, pieces-flat, bytes-take}
 use Rattle.octets.proofs.FieldsLaws.{fit-numbers, length-padded}
 use Rattle.octets.proofs.PartsLaws.{fit-set}
-use Rattle.rules.specs.Layout as layout
 use Rattle.rules.specs.Layout.{current, placeFields, sentInPlace, waitInPlace, headSize, placeSize, placesPerCell, cellSize}
 use Rattle.rules.specs.Table.{headOf, legalHead, placeOf, placeNumbers, placeBytes, freeBytes, isFree, liveFirst, placesOf, placeRuns, placesBytes, cellBytes, legalCell}
 use Rattle.rules.specs.InCell.{withCounts}
@@ -83,7 +82,7 @@ live-few c = rw length-pieces at (few-places (placeRuns current c))
 
 -- the numbers of a place are those that its bytes say, with the mark of a live one
 marked : (b : List ℕ) → placeNumbers (placeOf current b) ≡ set (set (numbers (placeFields current) b) 8 1) 9 0
-unfolding placeNumbers placeOf numbers layout.fieldOf
+unfolding placeNumbers placeOf numbers fieldOf
 marked b = refl
 
 -- whatever bytes say fits the fields

@@ -11,12 +11,10 @@ use lib.Dec.{eqb, ltb}
 use lib.ListN.{length, getD, take}
 use Rattle.octets.specs.Runs.{gets, Bytes}
 use Rattle.octets.specs.Numbers.{be}
-use Rattle.octets.specs.Fields.{size, offset, numbers}
+use Rattle.octets.specs.Fields.{size, offset, numbers, fieldOf}
 use Rattle.octets.proofs.RunsLaws.{length-gets, bytes-gets}
 use Rattle.octets.proofs.NumbersLaws.{be-lt, be-run}
-use Rattle.octets.proofs.FieldsLaws.{number-at, numbers-take}
-use Rattle.octets.proofs.PartsLaws.{field-within}
-use Rattle.rules.specs.Layout as layout
+use Rattle.octets.proofs.FieldsLaws.{field-at, field-within, numbers-take}
 use Rattle.rules.specs.Layout.{current, headFields, placeFields, headSize, placeSize, placesPerCell, cellSize}
 use Rattle.rules.specs.Table.{areasUsed, headOf, allAreas, placeNumbers, placeBytes}
 use Rattle.rules.specs.declared.Place.{Place}
@@ -42,52 +40,52 @@ module _ (l : List ℕ) (i j : ℕ) (bytes : Bytes l) (e : j ≡ i + 2) where
 -- ---- the fields of a live place
 
 module _ (c : List ℕ) (bytes : Bytes c) (k : ℕ) (at : LiveAt c k) where
-  pub field-read : (f : ℕ) → f < length (placeFields current) → be (gets c (headSize + placeSize current * k + offset (placeFields current) f) (getD (placeFields current) f 0)) ≡ getD (placeNumbers (placeAt c k)) f 0
-  unfolding size placeBytes
-  field-read f h =
+  field-read : (f : ℕ) → be (gets c (headSize + placeSize current * k + offset (placeFields current) f) (getD (placeFields current) f 0)) ≡ getD (placeNumbers (placeAt c k)) f 0
+  unfolding size placeBytes fieldOf
+  field-read f =
       let p : Place = placeAt c k in
-      let within : offset (placeFields current) f + getD (placeFields current) f 0 ≤ placeSize current = field-within (placeFields current) f h in
+      let within : offset (placeFields current) f + getD (placeFields current) f 0 ≤ placeSize current = field-within (placeFields current) f in
       let n : length (placeBytes current p) ≡ placeSize current = length-placeBytes current p in
       let w : numbers (placeFields current) (placeBytes current p) ≡ placeNumbers p = numbers-written (placeFields current) (placeNumbers p) (fits-Fit (placeFields current) (placeNumbers p) (fit-at c bytes k at)) in
       ap be (live-gets c k at (offset (placeFields current) f) (getD (placeFields current) f 0) within)
-      ∙ sym (number-at (placeFields current) (placeBytes current p) f h (omega arith))
+      ∙ sym (field-at (placeFields current) f (placeBytes current p) (omega arith))
       ∙ ap (λ (vs : List ℕ). getD vs f 0) w
 
   identifier-read : be (gets c (headSize + placeSize current * k) 2) ≡ placeAt c k .identifier
   unfolding offset placeNumbers
-  identifier-read = rw add-zero at (field-read 0 (omega arith))
+  identifier-read = rw add-zero at (field-read 0)
 
   serial-read : be (gets c (headSize + placeSize current * k + 2) 2) ≡ placeAt c k .serial
   unfolding offset placeNumbers
-  serial-read = field-read 1 (omega arith)
+  serial-read = field-read 1
 
   pub content-read : be (gets c (headSize + placeSize current * k + 4) 4) ≡ placeAt c k .content
   unfolding offset placeNumbers
-  content-read = field-read 2 (omega arith)
+  content-read = field-read 2
 
   pub period-read : be (gets c (headSize + placeSize current * k + 8) 4) ≡ placeAt c k .period .0
   unfolding offset placeNumbers
-  period-read = field-read 3 (omega arith)
+  period-read = field-read 3
 
   pub requested-read : be (gets c (headSize + placeSize current * k + 12) 2) ≡ placeAt c k .requested .0
   unfolding offset placeNumbers
-  requested-read = field-read 4 (omega arith)
+  requested-read = field-read 4
 
   pub sent-read : be (gets c (headSize + placeSize current * k + 14) 2) ≡ placeAt c k .sent .0
   unfolding offset placeNumbers
-  sent-read = field-read 5 (omega arith)
+  sent-read = field-read 5
 
   pub wait-read : be (gets c (headSize + placeSize current * k + 16) 4) ≡ placeAt c k .wait .0
   unfolding offset placeNumbers
-  wait-read = field-read 6 (omega arith)
+  wait-read = field-read 6
 
   pub sib-read : be (gets c (headSize + placeSize current * k + 20) 1) ≡ placeAt c k .sib
   unfolding offset placeNumbers
-  sib-read = field-read 7 (omega arith)
+  sib-read = field-read 7
 
   mark-read : be (gets c (headSize + placeSize current * k + 21) 1) ≡ 1
   unfolding offset placeNumbers
-  mark-read = field-read 8 (omega arith)
+  mark-read = field-read 8
 
   pub text-read : be (gets c (headSize + placeSize current * k) 4) ≡ textOf (placeAt c k)
   unfolding textOf
@@ -115,19 +113,19 @@ module _ (c : List ℕ) (bytes : Bytes c) (formed : Formed c) (k : ℕ) (room : 
 -- ---- the head
 
 module _ (c : List ℕ) (long : length c ≡ cellSize current) where
-  head-read : (f : ℕ) → f < length headFields → getD (numbers headFields (take headSize c)) f 0 ≡ be (gets c (offset headFields f) (getD headFields f 0))
-  unfolding size
-  head-read f h =
-      let within : offset headFields f + getD headFields f 0 ≤ headSize = field-within headFields f h in
-      rw (numbers-take headFields c headSize (omega arith)) (number-at headFields c f h (omega arith))
+  head-read : (f : ℕ) → fieldOf headFields f (take headSize c) ≡ be (gets c (offset headFields f) (getD headFields f 0))
+  unfolding size fieldOf
+  head-read f =
+      let within : offset headFields f + getD headFields f 0 ≤ headSize = field-within headFields f in
+      rw (numbers-take headFields c headSize (omega arith)) (field-at headFields f c (omega arith))
 
   pub identity-read : headOf (take headSize c) .identity ≡ be (gets c 0 8)
-  unfolding headOf layout.fieldOf offset
-  identity-read = head-read 0 (omega arith)
+  unfolding headOf fieldOf offset
+  identity-read = head-read 0
 
   pub code-read : headOf (take headSize c) .code ≡ be (gets c 8 3)
-  unfolding headOf layout.fieldOf offset
-  code-read = head-read 1 (omega arith)
+  unfolding headOf fieldOf offset
+  code-read = head-read 1
 
   four : (b : List ℕ)
       → allAreas b ≡ getD (numbers headFields b) 3 0 ∷ getD (numbers headFields b) 4 0 ∷ getD (numbers headFields b) 5 0 ∷ getD (numbers headFields b) 6 0 ∷ []
@@ -136,10 +134,10 @@ module _ (c : List ℕ) (long : length c ≡ cellSize current) where
 
   pub areas-read : (a : Areas) → a .used ≡ be (gets c 11 1) → a .first ≡ be (gets c 12 3) → a .second ≡ be (gets c 15 3) → a .third ≡ be (gets c 18 3) → a .fourth ≡ be (gets c 21 3)
       → HeadAreas (take headSize c) a
-  unfolding headOf areasIn layout.fieldOf offset
+  unfolding headOf areasIn fieldOf offset
   areas-read a u e₁ e₂ e₃ e₄ =
       let b : List ℕ = take headSize c in
-      let used : a .used ≡ areasUsed b = u ∙ sym (head-read 2 (omega arith)) in
+      let used : a .used ≡ areasUsed b = u ∙ sym (head-read 2) in
       let all : a .first ∷ a .second ∷ a .third ∷ a .fourth ∷ [] ≡ allAreas b =
-      rw (four b, head-read 3 (omega arith), head-read 4 (omega arith), head-read 5 (omega arith), head-read 6 (omega arith), e₁, e₂, e₃, e₄) in
+      rw (four b, head-read 3, head-read 4, head-read 5, head-read 6, e₁, e₂, e₃, e₄) in
       record { used = used; four = all; in-use = rw (used, all) }

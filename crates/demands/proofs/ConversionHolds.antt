@@ -10,9 +10,9 @@ use lib.Dec.{eqb}
 use lib.ListN.{length, take}
 use Rattle.octets.specs.Runs.{Bytes, pieces}
 use Rattle.octets.specs.Numbers.{be, toBe}
-use Rattle.octets.specs.Fields.{numbers}
+use Rattle.octets.specs.Fields.{numbers, fieldOf}
 use Rattle.rules.specs.Lists.{every, any, zeros, oneOf}
-use Rattle.rules.specs.Layout.{Version, fieldOf, version1, version2, current}
+use Rattle.rules.specs.Layout.{Version, version1, version2, current}
 use Rattle.rules.specs.Table.{cellCount}
 use Rattle.rules.specs.Record.{oneSecond, requestOf, itemsOf, renewed, recordMarked, allowed, kindAllows, areaFits, withinLimits, cancelsNothing}
 use Rattle.rules.specs.Answer.{roomFor}

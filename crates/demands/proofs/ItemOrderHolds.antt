@@ -6,8 +6,8 @@ use Prim.Native.Nat.{ℕ}
 use lib.Dec.{eqb}
 use lib.ListN.{length, getD}
 use borrow.Author.Tests.{le-leb, eq-eqb}
-use Rattle.octets.specs.Fields.{numbers}
-use Rattle.rules.specs.Layout.{fieldOf, current}
+use Rattle.octets.specs.Fields.{numbers, fieldOf}
+use Rattle.rules.specs.Layout.{current}
 use Rattle.rules.specs.Table.{Cell, cellsOf}
 use Rattle.rules.specs.Record.{requestOf, itemsOf, versionIn, zeroByte, longestAsked}
 use Rattle.rules.specs.Refusals.{recordVerdict, applyVerdict}

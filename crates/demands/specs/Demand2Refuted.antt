@@ -6,7 +6,8 @@ use mathlib.Core.List.{List, [], _∷_, _++_, map}
 use Prim.Native.Nat.{ℕ, _+_, _≤_}
 use lib.ListN.{take, drop}
 use lib.Seq.{sets}
-use Rattle.rules.specs.Layout.{current, fieldOf, headerSize, cellSize, answerSize, rowFields, countInRow, rowSize}
+use Rattle.octets.specs.Fields.{fieldOf}
+use Rattle.rules.specs.Layout.{current, headerSize, cellSize, answerSize, rowFields, countInRow, rowSize}
 use Rattle.rules.specs.Table.{Cell, cellsOf}
 use Rattle.rules.specs.Record.{cancelOrKill, cancelAll, requestOf}
 use Rattle.rules.specs.Answer.{roomFor}

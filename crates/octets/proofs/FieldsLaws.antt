@@ -2,14 +2,14 @@
 -- By induction over the list of widths, one field at a time, so they hold for any layout; a record cites them with its own widths.
 use mathlib.Core.Path.{_≡_, refl, ap}
 use mathlib.Core.List.{List, [], _∷_, _++_, append-assoc}
-use Prim.Native.Nat.{ℕ, zero, suc, _+_, _-_, _<_, _≤_}
+use Prim.Native.Nat.{ℕ, zero, suc, _+_, _-_, _≤_}
 use native.Mathlib.Nat.{sub-zero, zero-sub, suc-sub-suc}
 use native.Mathlib.Omega.{arith}
 use lib.ListN.{length, getD, take, drop, replicate, length-append, length-drop}
 use lib.Seq.{take-take, take-nil, take-add, take-at, drop-at, take-append-le, drop-append-le, length-take-le}
 use Rattle.octets.specs.Runs.{gets, Bytes}
 use Rattle.octets.specs.Numbers.{be, toBe}
-use Rattle.octets.specs.Fields.{size, offset, numbers, bytesOf, Fit, none, field, padded}
+use Rattle.octets.specs.Fields.{size, offset, numbers, fieldOf, bytesOf, Fit, none, field, padded}
 use Rattle.octets.proofs.RunsLaws.{gets-eq, gets-drop, bytes-take, bytes-drop, bytes-append}
 use Rattle.octets.proofs.NumbersLaws.{length-toBe, be-toBe, be-lt, toBe-be, bytes-toBe}
 
@@ -61,14 +61,21 @@ length-numbers [] l = refl
 length-numbers (w ∷ ws) l = ap suc (length-numbers ws (drop w l))
 
 -- field k, by where it stands
-pub number-at : (ws l : List ℕ) (k : ℕ) → k < length ws → offset ws k + getD ws k 0 ≤ length l
-    → getD (numbers ws l) k 0 ≡ be (gets l (offset ws k) (getD ws k 0))
-unfolding numbers offset
-number-at [] l k h fits = absurd (omega arith)
-number-at (w ∷ ws) l zero h fits = rw (gets-eq w l 0 fits)
-number-at (w ∷ ws) l (suc k) h fits =
+pub field-at : (ws : List ℕ) (k : ℕ) (l : List ℕ) → offset ws k + getD ws k 0 ≤ length l → fieldOf ws k l ≡ be (gets l (offset ws k) (getD ws k 0))
+unfolding fieldOf numbers offset be gets
+field-at [] k l fits = refl
+field-at (w ∷ ws) zero l fits = rw (gets-eq w l 0 fits)
+field-at (w ∷ ws) (suc k) l fits =
     let d : length (drop w l) ≡ length l - w = length-drop w l in
-    rw (number-at ws (drop w l) k (omega arith) (omega arith), gets-drop)
+    rw (field-at ws k (drop w l) (omega arith), gets-drop)
+
+-- a field ends within the layout
+pub field-within : (ws : List ℕ) (k : ℕ) → offset ws k + getD ws k 0 ≤ size ws
+unfolding offset size
+field-within [] zero = omega arith
+field-within [] (suc k) = omega arith
+field-within (w ∷ ws) zero = omega arith
+field-within (w ∷ ws) (suc k) = omega (arith, field-within ws k)
 
 drop-take : (w n : ℕ) (l : List ℕ) → drop w (take n l) ≡ take (n - w) (drop w l)
 drop-take zero n l = rw sub-zero

@@ -9,7 +9,7 @@ use lib.ListN.{length, getD, set, length-set, List·getD-append}
 use lib.Seq.{sets, getD-append-add, set-append-left, drop-length}
 use Rattle.octets.specs.Runs.{gets}
 use Rattle.octets.specs.Numbers.{toBe}
-use Rattle.octets.specs.Fields.{size, offset, bytesOf, Fit, none, field}
+use Rattle.octets.specs.Fields.{offset, bytesOf, Fit, none, field}
 use Rattle.octets.proofs.RunsLaws.{sets-front}
 use Rattle.octets.proofs.NumbersLaws.{length-toBe}
 
@@ -71,10 +71,3 @@ pub fit-set : {ws vs : List ℕ} → Fit ws vs → (k x : ℕ) → x < 256 ^ get
 fit-set none k x h = none
 fit-set (field p f) zero x h = field h f
 fit-set (field p f) (suc k) x h = field p (fit-set f k x h)
-
--- a field ends within the layout
-pub field-within : (ws : List ℕ) (k : ℕ) → k < length ws → offset ws k + getD ws k 0 ≤ size ws
-unfolding offset size
-field-within [] k h = absurd (omega arith)
-field-within (w ∷ ws) zero h = omega arith
-field-within (w ∷ ws) (suc k) h = omega (arith, field-within ws k (omega arith))

@@ -1,7 +1,7 @@
 -- A layout is the list of its fields' widths, in order and with no gaps. What bytes say by a layout, and the bytes of numbers.
 use mathlib.Core.List.{List, [], _∷_, _++_}
 use Prim.Native.Nat.{ℕ, zero, suc, _+_, _^_, _<_}
-use lib.ListN.{take, drop}
+use lib.ListN.{getD, take, drop}
 use Rattle.octets.specs.Numbers.{be, toBe}
 
 -- how many bytes a layout has
@@ -19,6 +19,10 @@ offset (w ∷ ws) (suc k) = w + offset ws k
 unfoldable pub numbers : List ℕ → List ℕ → List ℕ
 numbers [] l = []
 numbers (w ∷ ws) l = be (take w l) ∷ numbers ws (drop w l)
+
+-- the number in field k, counted from 0
+unfoldable pub fieldOf : List ℕ → ℕ → List ℕ → ℕ
+fieldOf ws k l = getD (numbers ws l) k 0
 
 -- the bytes of numbers, field by field
 unfoldable pub bytesOf : List ℕ → List ℕ → List ℕ

@@ -8,12 +8,13 @@ use native.Mathlib.Omega.{arith}
 use lib.Dec.{eqb, leb}
 use lib.ListN.{length, drop, getD, length-map}
 use Rattle.octets.proofs.RunsLaws.{length-pieces}
+use Rattle.octets.proofs.FieldsLaws.{field-at, field-within}
 use Rattle.octets.proofs.MarkLaws.{mark-and-version}
 use borrow.Author.Tests.{leb-true, le-leb, lt-leb, eq-eqb, ne-eqb, not-true, not-false}
 use Rattle.octets.specs.Runs.{Bytes, gets, pieces}
 use Rattle.octets.specs.Numbers.{be}
-use Rattle.octets.specs.Fields.{offset}
-use Rattle.rules.specs.Layout.{current, fieldOf, markField, recordFields, recordSize, itemSize, recordMark, mostItems}
+use Rattle.octets.specs.Fields.{offset, fieldOf}
+use Rattle.rules.specs.Layout.{current, markField, recordFields, recordSize, itemSize, recordMark, mostItems}
 use Rattle.rules.specs.Record.{versionIn, takesVersion, longestAsked, identifierToSib, cancelZeros, notified, requestOf, itemsOf, itemCount, zeroByte, recordMarked}
 use Rattle.rules.specs.Refusals.{requestVerdict, recordVerdict}
 use Rattle.rules.specs.Applied.{readBy, reading, readOf}
@@ -25,7 +26,6 @@ use Rattle.rules.specs.declared.Verdict.{Verdict}
 use Rattle.rules.specs.declared.Verdict.the-variants.{Accepted, Refused}
 use Rattle.rules.proofs.ListsLaws.{both}
 use Rattle.rules.proofs.LayoutLaws.{record-size}
-use Rattle.rules.proofs.FieldLaws.{field-at}
 use Rattle.rules.proofs.ZerosLaws.{be-zero, zeros-run}
 use Rattle.rules.specs.Lists.{every, zeros}
 use Rattle.record_read.proofs.JudgeLaws.{zeros-none, zeros-more, zeros-unless}
@@ -34,7 +34,7 @@ use Rattle.rules.proofs.RecordTrips.{record-accepted}
 -- ---- fields
 
 pub record-field : (r : List ℕ) → recordSize ≤ length r → (k : ℕ) → fieldOf recordFields k r ≡ be (gets r (offset recordFields k) (getD recordFields k 0))
-record-field r h = field-at recordFields r (rw record-size h)
+record-field r h k = field-at recordFields k r (omega (arith, h, record-size, field-within recordFields k))
 
 -- ---- mark and version
 

@@ -10,8 +10,9 @@ use lib.Dec.{eqb, leb}
 use lib.ListN.{length, take, length-append}
 use lib.Seq.{take-all, take-append-le}
 use borrow.Author.Tests.{leb-true, le-leb, eqb-true}
+use Rattle.octets.specs.Fields.{fieldOf}
 use Rattle.octets.proofs.FieldsLaws.{numbers-append}
-use Rattle.rules.specs.Layout.{current, versionNumber, fieldOf, markField, recordFields, recordSize, recordMark, itemSize, mostItems}
+use Rattle.rules.specs.Layout.{current, versionNumber, markField, recordFields, recordSize, recordMark, itemSize, mostItems}
 use Rattle.rules.specs.Table.{tableMarked, legalTable}
 use Rattle.rules.specs.Record.{versionIn, takesVersion, requestOf, itemCount, itemsOf, recordMarked}
 use Rattle.rules.specs.Refusals.{verdictNumber, _then_, tableVerdict, recordVerdict, applyVerdict}

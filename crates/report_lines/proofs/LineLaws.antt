@@ -8,13 +8,12 @@ use lib.ListN.{length, getD, drop, set, length-append}
 use lib.Seq.{sets}
 use Rattle.octets.specs.Runs.{gets, pieces}
 use Rattle.octets.specs.Numbers.{be}
-use Rattle.octets.specs.Fields.{offset}
+use Rattle.octets.specs.Fields.{offset, fieldOf}
 use Rattle.octets.proofs.RunsLaws.{sets-run, gets-gets, length-gets}
+use Rattle.octets.proofs.FieldsLaws.{field-at}
 use Rattle.octets.proofs.PiecesLaws.{pieces-next, pieces-none}
-use Rattle.rules.specs.Layout.{answerFields, answerSize, rowFields, rowSize, fieldOf, kindInAnswer}
+use Rattle.rules.specs.Layout.{answerFields, answerSize, rowFields, rowSize, kindInAnswer}
 use Rattle.rules.specs.Answer.{Row}
-use Rattle.rules.proofs.LayoutLaws.{answer-size, row-size}
-use Rattle.rules.proofs.FieldLaws.{field-at}
 use Rattle.report_lines.specs.Text.{digits, places, decimal, hexPlaces, space, lineFeed, numberText, cellText, noText, okText, rowText, rowSaid, rowCount, answerText, Said}
 use Rattle.report_lines.proofs.TextLaws.{length-digits, said-then}
 
@@ -64,7 +63,7 @@ pub row-field : (k at w : ℕ) → offset rowFields k ≡ at → getD rowFields 
     → fieldOf rowFields k (gets answer from rowSize) ≡ be (gets answer (from + at) w)
 row-field k at w o v h answer from =
     let l : length (gets answer from rowSize) ≡ rowSize = length-gets rowSize answer from in
-    field-at rowFields (gets answer from rowSize) (omega (arith, row-size)) k ∙ rw (o, v, gets-gets w rowSize answer from at h)
+    field-at rowFields k (gets answer from rowSize) (omega arith) ∙ rw (o, v, gets-gets w rowSize answer from at h)
 
 pub row-told : (answer : List ℕ) (from i k n : ℕ) → i ≡ be (gets answer from 8) → k ≡ be (gets answer (from + 8) 2) → n ≡ be (gets answer (from + 10) 4)
     → record { identity = i; count = k; content = n } ≡ rowSaid (gets answer from rowSize)
@@ -97,7 +96,7 @@ pub answer-said : {out next last : List ℕ} {at mid end : ℕ} (answer : List �
     → Said next mid (rowsText rows (drop answerSize answer)) last end → Said out at (answerText answer) last end
 unfolding answerText offset
 answer-said {out} {next} {last} {at} {mid} {end} answer kind rows h k r a b =
-    let f : fieldOf answerFields kindInAnswer answer ≡ kind = field-at answerFields answer (omega (arith, answer-size)) 2 ∙ sym k in
+    let f : fieldOf answerFields kindInAnswer answer ≡ kind = field-at answerFields kindInAnswer answer (omega arith) ∙ sym k in
     rw (f, ← r) (said-then a b)
 
 -- ---- text still to come: what is stored now and the rest behind it are the whole

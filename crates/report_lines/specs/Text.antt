@@ -7,7 +7,8 @@ use lib.Dec.{eqb, ltb}
 use lib.ListN.{length, take, drop}
 use lib.Seq.{sets}
 use Rattle.octets.specs.Runs.{pieces}
-use Rattle.rules.specs.Layout.{fieldOf, identityInRow, countInRow, contentInRow, kindInAnswer, answerFields, rowFields, answerSize, rowSize}
+use Rattle.octets.specs.Fields.{fieldOf}
+use Rattle.rules.specs.Layout.{identityInRow, countInRow, contentInRow, kindInAnswer, answerFields, rowFields, answerSize, rowSize}
 use Rattle.rules.specs.Answer.{Row}
 use Rattle.rules.specs.Applied.{Outcome}
 

@@ -9,10 +9,10 @@ use borrow.Author.Tests.{ltb-true, leb-true, lt-ltb, le-leb}
 use lib.ListN.{length, take, drop, length-drop, take-append-drop}
 use lib.Seq.{length-take-le}
 use Rattle.octets.specs.Runs.{Bytes}
-use Rattle.octets.specs.Fields.{size, numbers, Fit, padded}
+use Rattle.octets.specs.Fields.{size, numbers, Fit, padded, fieldOf}
 use Rattle.octets.proofs.FieldsLaws.{length-padded, padded-append, take-padded, drop-padded, fit-numbers, bytes-bytesOf}
 use Rattle.rules.specs.Lists.{zeros, ascending}
-use Rattle.rules.specs.Layout.{fieldOf, headFields, headSize, mostAreas, cellEnd}
+use Rattle.rules.specs.Layout.{headFields, headSize, mostAreas, cellEnd}
 use Rattle.rules.specs.Table.{Head, areasUsed, allAreas, headOf, headNumbers, headBytes, legalHead}
 use Rattle.rules.specs.Sound.{soundHead}
 use Rattle.rules.proofs.ListsLaws.{both, zeros-replicate, replicate-zeros}

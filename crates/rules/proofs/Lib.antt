@@ -33,8 +33,6 @@ pub mod VersionsLaws
 pub mod ItemsLaws
 pub mod RowsLaws
 pub mod ZerosLaws
-pub mod OffsetLaws
-pub mod FieldLaws
 pub mod OnceLaws
 pub mod Once
 pub mod IdentityLaws

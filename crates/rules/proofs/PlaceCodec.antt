@@ -9,11 +9,11 @@ use native.Mathlib.Omega.{arith}
 use borrow.Author.Tests.{eqb-true, le-leb}
 use lib.ListN.{length, replicate, length-replicate}
 use Rattle.octets.specs.Runs.{Bytes, pieces}
-use Rattle.octets.specs.Fields.{size, numbers, padded}
+use Rattle.octets.specs.Fields.{size, numbers, padded, fieldOf}
 use Rattle.octets.proofs.RunsLaws.{bytes-replicate-zero}
 use Rattle.octets.proofs.FieldsLaws.{length-padded, fit-numbers, bytes-bytesOf, numbers-zeros}
 use Rattle.rules.specs.Lists.{every, zeros}
-use Rattle.rules.specs.Layout.{Version, fieldOf, liveInPlace, zeroInPlace, placeFields, placeSize, placesPerCell}
+use Rattle.rules.specs.Layout.{Version, liveInPlace, zeroInPlace, placeFields, placeSize, placesPerCell}
 use Rattle.rules.specs.Table.{placeOf, placeNumbers, placeBytes, freeBytes, isFree, isLive, liveFirst, placesOf, legalPlace, different, legalPlaces, placesBytes}
 use Rattle.rules.specs.Sound.{fits, soundPlace, soundPlaces}
 use Rattle.rules.specs.declared.Place.{Place}

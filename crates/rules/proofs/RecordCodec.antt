@@ -9,11 +9,11 @@ use lib.ListN.{length, take, drop, getD, length-drop, length-map, take-append-dr
 use lib.Seq.{drop-at, length-take-le}
 use Rattle.octets.specs.Runs.{Bytes, pieces}
 use Rattle.octets.specs.Numbers.{be, toBe}
-use Rattle.octets.specs.Fields.{numbers, bytesOf, Fit}
+use Rattle.octets.specs.Fields.{numbers, bytesOf, Fit, fieldOf}
 use Rattle.octets.proofs.RunsLaws.{length-pieces, pieces-flatMap, bytes-take, bytes-drop}
 use Rattle.octets.proofs.NumbersLaws.{length-toBe, be-toBe, toBe-be}
 use Rattle.octets.proofs.FieldsLaws.{numbers-bytesOf, bytesOf-numbers, length-bytesOf}
-use Rattle.rules.specs.Layout.{fieldOf, markField, versionField, recordFields, recordSize, itemSize, recordMark, recordVersion}
+use Rattle.rules.specs.Layout.{markField, versionField, recordFields, recordSize, itemSize, recordMark, recordVersion}
 use Rattle.rules.specs.Record.{requestOf, requestNumbers, recordBytes, itemsOf, itemCount, zeroByte}
 use Rattle.rules.specs.declared.Request.{Request}
 use Rattle.rules.proofs.LayoutLaws.{record-size}

@@ -9,12 +9,12 @@ use lib.Dec.{eqb, ltb, leb}
 use lib.ListN.{length, getD, length-append}
 use borrow.Author.Tests.{ltb-true, leb-true, eqb-true, not-true, lt-ltb, le-leb, eq-eqb}
 use Rattle.octets.specs.Numbers.{toBe}
-use Rattle.octets.specs.Fields.{Fit}
+use Rattle.octets.specs.Fields.{Fit, fieldOf}
 use Rattle.octets.proofs.RunsLaws.{length-flatMap}
 use Rattle.octets.proofs.NumbersLaws.{length-toBe}
 use Rattle.octets.proofs.FieldsLaws.{length-bytesOf}
 use Rattle.rules.specs.Lists.{every}
-use Rattle.rules.specs.Layout.{Version, version1, version2, current, fieldOf, markField, recordFields, recordSize, itemSize, recordMark, mostItems, longestPeriod, firstSib, lastSib}
+use Rattle.rules.specs.Layout.{Version, version1, version2, current, markField, recordFields, recordSize, itemSize, recordMark, mostItems, longestPeriod, firstSib, lastSib}
 use Rattle.rules.specs.Record.{writeReplace, versionIn, takesVersion, longestAsked, requestOf, requestNumbers, recordBytes, itemsOf, itemCount, zeroByte, recordMarked, kindAllows, areaFits, itemEndIn, itemEnd, withinLimits, cancelsNothing}
 use Rattle.rules.specs.Refusals.{refuseUnless, fewItems, recordTests, requestVerdict, recordVerdict, writeVerdict}
 use Rattle.rules.specs.Sound.{fits, fitRequest}

@@ -8,10 +8,10 @@ use lib.ListN.{length, take, drop, length-append, length-drop, take-append-drop}
 use lib.Seq.{take-at, drop-at, drop-drop, length-take-le}
 use Rattle.octets.specs.Runs.{Bytes}
 use Rattle.octets.specs.Numbers.{be, toBe}
-use Rattle.octets.specs.Fields.{numbers}
+use Rattle.octets.specs.Fields.{numbers, fieldOf}
 use Rattle.octets.proofs.RunsLaws.{bytes-take, bytes-drop, bytes-append}
 use Rattle.octets.proofs.NumbersLaws.{length-toBe, be-toBe, toBe-be, bytes-toBe}
-use Rattle.rules.specs.Layout.{fieldOf, markField, recordFields, recordSize, itemSize, recordMark, recordVersion}
+use Rattle.rules.specs.Layout.{markField, recordFields, recordSize, itemSize, recordMark, recordVersion}
 use Rattle.rules.specs.Record.{versionIn, requestOf, recordBytes, itemsOf, itemCount, zeroByte, renewed}
 use Rattle.rules.proofs.RecordCodec.{record-back}
 

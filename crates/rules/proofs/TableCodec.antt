@@ -10,11 +10,11 @@ use lib.Dec.{leb}
 use lib.ListN.{length, take, drop, length-append, length-drop, length-map, take-append-drop}
 use lib.Seq.{take-all, drop-at}
 use Rattle.octets.specs.Runs.{Bytes}
-use Rattle.octets.specs.Fields.{size, numbers, Fit}
+use Rattle.octets.specs.Fields.{size, numbers, Fit, fieldOf}
 use Rattle.octets.proofs.RunsLaws.{length-pieces, pieces-flat, pieces-flatMap, length-flatMap, bytes-drop, bytes-append}
 use Rattle.octets.proofs.FieldsLaws.{numbers-bytesOf, bytesOf-numbers, bytes-bytesOf}
 use Rattle.rules.specs.Lists.{every, ascending}
-use Rattle.rules.specs.Layout.{Version, fieldOf, markField, versionField, placesInHeader, zeroInHeader, headerFields, headerSize, headSize, cellSize, placesPerCell, tableMark, versionNumber, mostCells}
+use Rattle.rules.specs.Layout.{Version, markField, versionField, placesInHeader, zeroInHeader, headerFields, headerSize, headSize, cellSize, placesPerCell, tableMark, versionNumber, mostCells}
 use Rattle.rules.specs.Table.{Cell, headOf, legalHead, cellOf, cellBytes, legalCell, cellCount, cellRuns, cellsOf, headerBytes, tableBytes, identityAt, tableMarked, legalTable, different}
 use Rattle.rules.specs.Sound.{fits, soundPlaces, soundCell, identityOfCell, soundCells}
 use Rattle.rules.specs.Refusals.{tableTests, tableVerdict, headCount, headRuns, legalHeads}

@@ -1,13 +1,8 @@
 -- Every width, size, limit and mark of documents 01 and 02, once. A layout is the list of its fields' widths, in order; offsets follow from it.
+-- Beside each layout its fields have names, counted from 0.
 use mathlib.Core.List.{List, [], _∷_}
 use Prim.Native.Nat.{ℕ, _+_, _*_, _^_}
-use lib.ListN.{getD}
-use Rattle.octets.specs.Fields.{numbers}
 use Rattle.rules.specs.declared.Seconds.{Seconds}
-
--- the number in the field at a place of its layout; beside each layout its fields have names in their order, counted from 0
-unfoldable pub fieldOf : List ℕ → ℕ → List ℕ → ℕ
-fieldOf ws k l = getD (numbers ws l) k 0
 
 -- a table, a record and an answer begin with their mark and version
 abbrev pub markField : ℕ

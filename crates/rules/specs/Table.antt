@@ -5,9 +5,9 @@ use Prim.Native.Nat.{ℕ, _+_, _*_}
 use lib.Dec.{eqb, ltb, leb}
 use lib.ListN.{length, take, drop, replicate}
 use Rattle.octets.specs.Runs.{pieces}
-use Rattle.octets.specs.Fields.{numbers, bytesOf, padded}
+use Rattle.octets.specs.Fields.{numbers, bytesOf, padded, fieldOf}
 use Rattle.rules.specs.Lists.{every, any, zeros, ascending, larger}
-use Rattle.rules.specs.Layout.{Version, versionNumber, fieldOf, identityInHead, codeInHead, areasUsedInHead, areasInHead, identifierInPlace, serialInPlace, contentInPlace, periodInPlace, requestedInPlace, sentInPlace, waitInPlace, sibInPlace, liveInPlace, zeroInPlace, cellsInHeader, markField, versionField, placesInHeader, zeroInHeader, headerFields, headFields, placeFields, placesPerCell, mostAreas, headerSize, headSize, placeSize, cellSize, tableMark, mostCells, longestPeriod, firstSib, lastSib, cellEnd}
+use Rattle.rules.specs.Layout.{Version, versionNumber, identityInHead, codeInHead, areasUsedInHead, areasInHead, identifierInPlace, serialInPlace, contentInPlace, periodInPlace, requestedInPlace, sentInPlace, waitInPlace, sibInPlace, liveInPlace, zeroInPlace, cellsInHeader, markField, versionField, placesInHeader, zeroInHeader, headerFields, headFields, placeFields, placesPerCell, mostAreas, headerSize, headSize, placeSize, cellSize, tableMark, mostCells, longestPeriod, firstSib, lastSib, cellEnd}
 use Rattle.rules.specs.declared.Place.{Place}
 
 -- ---- cells

@@ -1,6 +1,6 @@
 -- The converter's answers are `conversion`: 1 and 2 by version 1's rules, then 8, then the same cells in the current layout, whole.
 -- The bytes of an accepted table's cells are the widened ones, behind a header of the current version.
-use mathlib.Core.Path.{_≡_, _∙_}
+use mathlib.Core.Path.{_≡_, sym, _∙_}
 use mathlib.Core.List.{List, _++_, flatMap}
 use Prim.Native.Nat.{ℕ, _+_, _-_, _*_, _≤_, _<_}
 use native.Mathlib.Omega.{arith}
@@ -9,8 +9,10 @@ use lib.ListN.{length, take, drop}
 use lib.Seq.{sets}
 use Rattle.octets.specs.Runs.{gets, pieces, Bytes}
 use Rattle.octets.specs.Numbers.{be}
+use Rattle.octets.specs.Fields.{offset}
 use Rattle.octets.proofs.RunsLaws.{sets-run}
-use Rattle.rules.specs.Layout.{version1, current, headerSize, cellSize, mostCells}
+use Rattle.octets.proofs.FieldsLaws.{field-at}
+use Rattle.rules.specs.Layout.{version1, current, headerFields, cellsInHeader, headerSize, cellSize, mostCells}
 use Rattle.rules.specs.Table.{cellCount, cellOf, cellBytes, cellRuns, cellsOf, headerBytes, tableBytes}
 use Rattle.rules.specs.Refusals.{tableVerdict}
 use Rattle.rules.specs.Applied.{filledBy, fill, converted, conversion}
@@ -20,7 +22,6 @@ use Rattle.rules.specs.declared.Verdict.the-variants.{Accepted, Refused}
 use Rattle.rules.specs.declared.Writing.the-variants.{Written, Unwritten}
 use Rattle.rules.proofs.ListsLaws.{flatMap-map}
 use Rattle.rules.proofs.AllLaws.{all-imply, flatMap-all}
-use Rattle.rules.proofs.OffsetLaws.{count-at}
 use Rattle.rules.proofs.VerdictLaws.{convert-chain}
 use Rattle.rules.proofs.TableCodec.{table-accepted, length-cellsOf, table-cells, length-headerBytes}
 use Rattle.rules.proofs.ConvertedLaws.{length-converted}
@@ -42,7 +43,8 @@ module _ (old : List ℕ) (accepted : tableVerdict version1 old ≡ Accepted) wh
 
   -- the count that the code reads
   pub old-count : {n : ℕ} → n ≡ be (gets old 5 2) → n ≡ cellCount old
-  old-count e = e ∙ count-at old (omega (arith, old-size))
+  unfolding offset
+  old-count e = e ∙ sym (field-at headerFields cellsInHeader old (omega (arith, old-size)))
 
   pub room-short : (t : List ℕ) {n : ℕ} → n ≡ be (gets old 5 2) → length t < headerSize + cellSize current * n → filledBy (Unwritten ShortBuffer) t ≡ conversion old t
   unfolding conversion fill

@@ -12,13 +12,13 @@ use lib.ListN.{length, take, drop, getD, length-append, length-drop, drop-of-len
 use lib.Seq.{sets, length-sets, length-take-le, take-at, drop-length}
 use Rattle.octets.specs.Runs.{gets, Bytes}
 use Rattle.octets.specs.Numbers.{be, toBe}
-use Rattle.octets.specs.Fields.{numbers, bytesOf, offset}
+use Rattle.octets.specs.Fields.{numbers, bytesOf, offset, fieldOf}
 use Rattle.octets.proofs.RunsLaws.{length-gets, gets-gets, gets-run, bytes-gets, sets-run, sets-front}
 use Rattle.octets.proofs.NumbersLaws.{length-toBe, toBe-gets, toBe-join, be-lt, be-run}
+use Rattle.octets.proofs.FieldsLaws.{field-at, field-within}
 use Rattle.octets.proofs.PiecesLaws.{pieces-next, pieces-none}
 use Rattle.rules.specs.Lists.{every}
-use Rattle.rules.specs.Layout.{version1, current, fieldOf, periodInPlace, placeFields, placeSize, placesPerCell, headSize, cellSize}
-use Rattle.rules.proofs.FieldLaws.{field-at}
+use Rattle.rules.specs.Layout.{version1, current, periodInPlace, placeFields, placeSize, placesPerCell, headSize, cellSize}
 use Rattle.rules.proofs.LayoutLaws.{place-size}
 use Rattle.table_convert.specs.Wide.{widePlace, widePlaces, wideCell, shortPeriod, shortPeriods}
 use Rattle.table_convert.proofs.WideLaws.{length-wide}
@@ -28,7 +28,7 @@ use Rattle.table_convert.proofs.WideCellLaws.{length-widePlaces}
 
 module _ (b : List ℕ) (long : length b ≡ placeSize version1) where
   at : (k : ℕ) → be (gets b (offset (placeFields version1) k) (getD (placeFields version1) k 0)) ≡ fieldOf (placeFields version1) k b
-  at k = sym (field-at (placeFields version1) b (omega (arith, place-size version1)) k)
+  at k = sym (field-at (placeFields version1) k b (omega (arith, place-size version1, field-within (placeFields version1) k)))
 
   pub period-at : be (gets b 8 2) ≡ fieldOf (placeFields version1) periodInPlace b
   unfolding offset

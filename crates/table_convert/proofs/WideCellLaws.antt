@@ -10,10 +10,11 @@ use lib.Dec.{leb}
 use lib.ListN.{length, take, drop, length-append}
 use lib.Seq.{take-at, drop-at, length-take-le}
 use Rattle.octets.specs.Runs.{Bytes, pieces}
+use Rattle.octets.specs.Fields.{fieldOf}
 use Rattle.octets.proofs.RunsLaws.{bytes-take, bytes-append, pieces-flatMap, length-flatMap, length-pieces}
 use Rattle.octets.proofs.FieldsLaws.{numbers-zeros}
 use Rattle.rules.specs.Lists.{every}
-use Rattle.rules.specs.Layout.{version1, current, fieldOf, placeFields, placeSize, placesPerCell, headSize, cellSize, longestPeriod}
+use Rattle.rules.specs.Layout.{version1, current, placeFields, placeSize, placesPerCell, headSize, cellSize, longestPeriod}
 use Rattle.rules.specs.Table.{placeOf, isFree, liveFirst, placesOf, legalPlace, legalHead, legalPlaces, placeRuns, cellOf, cellBytes, legalCell}
 use Rattle.rules.specs.declared.Place.{Place}
 use Rattle.rules.proofs.ListsLaws.{both, by-test, zeros-replicate}

@@ -8,10 +8,10 @@ use native.Mathlib.Omega.{arith}
 use lib.ListN.{length, replicate}
 use Rattle.octets.specs.Runs.{Bytes}
 use Rattle.octets.specs.Numbers.{be, toBe}
-use Rattle.octets.specs.Fields.{numbers, bytesOf, Fit, field}
+use Rattle.octets.specs.Fields.{numbers, bytesOf, Fit, field, fieldOf}
 use Rattle.octets.proofs.FieldsLaws.{length-numbers, fit-numbers, bytes-bytesOf, numbers-zeros}
 use Rattle.rules.specs.Lists.{every, zeros}
-use Rattle.rules.specs.Layout.{version1, current, fieldOf, placeFields, placeSize}
+use Rattle.rules.specs.Layout.{version1, current, placeFields, placeSize}
 use Rattle.rules.specs.Table.{placeOf, isFree, isLive}
 use Rattle.rules.proofs.ListsLaws.{by-test, zeros-replicate}
 use Rattle.rules.proofs.FitLaws.{numbers-written, numbers-again, length-written}

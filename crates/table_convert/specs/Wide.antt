@@ -4,9 +4,9 @@ use mathlib.Core.List.{List, _++_, flatMap}
 use Prim.Native.Nat.{ℕ}
 use lib.Dec.{leb}
 use lib.ListN.{take}
-use Rattle.octets.specs.Fields.{numbers, bytesOf}
+use Rattle.octets.specs.Fields.{numbers, bytesOf, fieldOf}
 use Rattle.rules.specs.Lists.{every}
-use Rattle.rules.specs.Layout.{version1, current, fieldOf, periodInPlace, placeFields, longestPeriod, headSize}
+use Rattle.rules.specs.Layout.{version1, current, periodInPlace, placeFields, longestPeriod, headSize}
 use Rattle.rules.specs.Table.{placeRuns}
 
 unfoldable pub widePlace : List ℕ → List ℕ

@@ -10,13 +10,14 @@ use lib.Dec.{eqb, leb}
 use lib.ListN.{length, take, drop}
 use Rattle.octets.specs.Runs.{gets, pieces}
 use Rattle.octets.specs.Numbers.{be}
-use Rattle.rules.specs.Layout.{Version, versionNumber, fieldOf, placesInHeader, zeroInHeader, headerFields, placesPerCell, headerSize, cellSize, mostCells}
+use Rattle.octets.specs.Fields.{offset, fieldOf}
+use Rattle.octets.proofs.FieldsLaws.{field-at}
+use Rattle.rules.specs.Layout.{Version, versionNumber, cellsInHeader, placesInHeader, zeroInHeader, headerFields, placesPerCell, headerSize, cellSize, mostCells}
 use Rattle.rules.specs.Table.{cellCount, cellRuns, legalCell, tableMarked, legalTable}
 use Rattle.rules.specs.Refusals.{tableVerdict}
 use Rattle.rules.specs.declared.Refusal.the-variants.{TableMark, TableWrong}
 use Rattle.rules.specs.declared.Verdict.the-variants.{Accepted, Refused}
 use Rattle.rules.proofs.ListsLaws.{both}
-use Rattle.rules.proofs.OffsetLaws.{count-at}
 use Rattle.table_judge.specs.Judge.{legalHeader, legalRuns}
 use Rattle.table_judge.proofs.PiecesLaws.{take-rest}
 
@@ -41,7 +42,8 @@ module _ (v : Version) where
     header-long = omega (arith, header-size t header)
 
     count : (n : ℕ) → n ≡ be (gets t 5 2) → n ≡ cellCount t
-    count n en = en ∙ count-at t header-long
+    unfolding offset
+    count n en = en ∙ sym (field-at headerFields cellsInHeader t (omega (arith, header-long)))
 
     pub table-size : (n : ℕ) → n ≡ be (gets t 5 2) → length t ≡ headerSize + cellSize v * n
     table-size n en = rw (count n en) (header-size t header)

@@ -13,15 +13,14 @@ use lib.ListN.{length, take, drop, length-drop}
 use lib.Seq.{take-take, length-take-le}
 use Rattle.octets.specs.Runs.{gets, pieces}
 use Rattle.octets.specs.Numbers.{be}
-use Rattle.octets.specs.Fields.{size}
+use Rattle.octets.specs.Fields.{size, offset, fieldOf}
 use Rattle.octets.proofs.RunsLaws.{gets-eq, gets-gets}
-use Rattle.octets.proofs.FieldsLaws.{numbers-take}
+use Rattle.octets.proofs.FieldsLaws.{field-at, numbers-take}
 use Rattle.rules.specs.Lists.{every, above, ascending}
-use Rattle.rules.specs.Layout.{Version, fieldOf, headFields, headSize, cellEnd}
+use Rattle.rules.specs.Layout.{Version, headFields, identityInHead, headSize, cellEnd}
 use Rattle.rules.specs.Table.{Head, headOf, legalHead, legalCell, identityAt}
 use Rattle.rules.proofs.HeadCodec.{legal-head}
 use Rattle.rules.proofs.CellCodec.{legal-cell}
-use Rattle.rules.proofs.OffsetLaws.{identity-at}
 use Rattle.table_judge.specs.Judge.{legalRuns}
 use Rattle.octets.proofs.PiecesLaws.{pieces-more, pieces-none}
 use Rattle.table_judge.proofs.PiecesLaws.{piece-fits}
@@ -63,12 +62,13 @@ module _ {f : List ℕ → Bool} {w count : ℕ} {l : List ℕ} {at left least :
   here = piece-fits w at left (p .fits) h
 
   identity-here : be (gets l at 8) ≡ identityAt (take w (drop at l))
-  unfolding headOf
+  unfolding headOf offset
   identity-here =
       let d : length (drop at l) ≡ length l - at = length-drop at l in
       let fits : at + headSize ≤ length l = omega (arith, here .0) in
       let long : length (take headSize (drop at l)) ≡ headSize = length-take-le headSize (drop at l) (omega arith) in
-      rw (take-take headSize w (drop at l) wide, ← identity-at (take headSize (drop at l)) long, ← gets-eq headSize l at fits, gets-gets 8 headSize l at 0 (omega arith), add-zero)
+      let field = field-at headFields identityInHead (take headSize (drop at l)) (omega (arith, long)) in
+      rw (take-take headSize w (drop at l) wide, field, ← gets-eq headSize l at fits, gets-gets 8 headSize l at 0 (omega arith), add-zero)
 
   -- what the code read here: the NR CGI i, and r, whether the run that it lent is legal
   module _ (i : ℕ) (ei : i ≡ be (gets l at 8)) where

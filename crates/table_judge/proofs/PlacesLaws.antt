@@ -1,6 +1,6 @@
 -- The loop over a cell's places: what is left of them, walked with the last three texts, decides whether the cell's places are legal.
 -- A turn peels one place, whose bytes the code reads where they stand: `pieces-more` and `gets-gets`.
-use mathlib.Core.Path.{_≡_, _∙_}
+use mathlib.Core.Path.{_≡_, sym, _∙_}
 use mathlib.Core.Bool.{Bool, true, false, not, _&&_}
 use mathlib.Core.List.{List}
 use Prim.Native.Nat.{ℕ, _+_, _-_, _*_, _≤_, _<_}
@@ -12,12 +12,13 @@ use lib.ListN.{length, take, drop, length-drop}
 use lib.Seq.{length-take-le}
 use Rattle.octets.specs.Runs.{Bytes, gets, pieces}
 use Rattle.octets.specs.Numbers.{be}
+use Rattle.octets.specs.Fields.{offset}
 use Rattle.octets.proofs.RunsLaws.{gets-eq, gets-gets}
+use Rattle.octets.proofs.FieldsLaws.{field-at}
 use Rattle.rules.specs.Lists.{every}
-use Rattle.rules.specs.Layout.{current, placeSize, placesPerCell}
+use Rattle.rules.specs.Layout.{current, liveInPlace, placeFields, placeSize, placesPerCell}
 use Rattle.rules.specs.Table.{isFree, legalPlaces}
 use Rattle.rules.proofs.AllLaws.{all-pieces}
-use Rattle.rules.proofs.OffsetLaws.{live-at}
 use Rattle.table_judge.specs.Judge.{legalLive}
 use Rattle.octets.proofs.PiecesLaws.{pieces-more, pieces-none}
 use Rattle.table_judge.proofs.WalkLaws.{liveByte, textAt, noText, walk, walk-starts}
@@ -44,7 +45,10 @@ module _ {l : List ℕ} {at left x y z : ℕ} (p : PlacesLeft l at left x y z) (
   here = let f = p .fits in omega arith
 
   live-here : be (gets l (at + 21) 1) ≡ liveByte (take 24 (drop at l))
-  live-here = rw (← gets-gets 1 24 l at 21 (omega arith), gets-eq 24 l at here) (live-at (take 24 (drop at l)) (length-take-le 24 (drop at l) (rw length-drop (omega (arith, here)))))
+  unfolding offset
+  live-here =
+      let long : length (take 24 (drop at l)) ≡ 24 = length-take-le 24 (drop at l) (rw length-drop (omega (arith, here))) in
+      rw (← gets-gets 1 24 l at 21 (omega arith), gets-eq 24 l at here) (sym (field-at (placeFields current) liveInPlace (take 24 (drop at l)) (omega (arith, long))))
 
   text-here : be (gets l at 4) ≡ textAt (take 24 (drop at l))
   text-here = rw (← gets-eq 24 l at here, gets-gets 4 24 l at 0 (omega arith), add-zero)

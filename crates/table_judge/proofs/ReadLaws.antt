@@ -11,10 +11,12 @@ use lib.Dec.{eqb, ltb}
 use lib.ListN.{length}
 use Rattle.octets.specs.Runs.{gets, Bytes}
 use Rattle.octets.specs.Numbers.{be}
+use Rattle.octets.specs.Fields.{offset, numbers, fieldOf}
 use Rattle.octets.proofs.RunsLaws.{length-gets, bytes-gets}
 use Rattle.octets.proofs.NumbersLaws.{be-lt, be-run}
+use Rattle.octets.proofs.FieldsLaws.{field-at}
 use Rattle.rules.specs.Lists.{every, zeros, above, ascending}
-use Rattle.rules.specs.Layout.{headerSize, cellEnd}
+use Rattle.rules.specs.Layout.{headFields, headerSize, headSize, cellEnd}
 use Rattle.rules.specs.Table.{headOf, areasUsed, allAreas, legalHead, isFree, cellCount}
 use Rattle.rules.proofs.ZerosLaws.{be-zero, zeros-run}
 use Rattle.table_judge.specs.Judge.{legalAreas, legalHeader}
@@ -35,6 +37,16 @@ free-wide l i = simp be-zero (rw (zeros-run 8 8 l i (i + 8) refl, zeros-run 16 8
 
 abbrev area : List ℕ → ℕ → ℕ
 area l i = be (gets l i 3)
+
+pub areas-at : (l : List ℕ) → length l ≡ headSize → area l 12 ∷ area l 15 ∷ area l 18 ∷ area l 21 ∷ [] ≡ allAreas l
+unfolding offset fieldOf numbers
+areas-at l whole =
+    rw (
+      ← field-at headFields 3 l (omega (arith, whole)),
+      ← field-at headFields 4 l (omega (arith, whole)),
+      ← field-at headFields 5 l (omega (arith, whole)),
+      ← field-at headFields 6 l (omega (arith, whole)),
+    )
 
 -- all four are zero
 pub areas-none : (l : List ℕ)

@@ -10,17 +10,17 @@ use lib.Dec.{eqb}
 use lib.ListN.{length}
 use Rattle.octets.specs.Runs.{Bytes, gets, pieces}
 use Rattle.octets.specs.Numbers.{be}
+use Rattle.octets.specs.Fields.{offset, fieldOf}
 use Rattle.octets.proofs.RunsLaws.{length-gets, bytes-gets}
 use Rattle.octets.proofs.NumbersLaws.{be-lt, be-run}
-use Rattle.octets.proofs.FieldsLaws.{numbers-zeros}
+use Rattle.octets.proofs.FieldsLaws.{field-at, numbers-zeros}
 use Rattle.rules.specs.Lists.{every, any}
-use Rattle.rules.specs.Layout.{current, fieldOf, liveInPlace, placeFields, placeSize, placesPerCell}
+use Rattle.rules.specs.Layout.{current, identifierInPlace, serialInPlace, liveInPlace, placeFields, placeSize, placesPerCell}
 use Rattle.rules.specs.Table.{placeOf, isFree, isLive, liveFirst, placesOf, legalPlace, isText, running, different, legalPlaces}
 use Rattle.rules.specs.declared.Place.{Place}
 use Rattle.rules.proofs.ListsLaws.{both, by-test, cond-either, zeros-replicate}
 use Rattle.rules.proofs.AllLaws.{All, none, more}
 use Rattle.rules.proofs.PlaceCodec.{PlaceRun}
-use Rattle.rules.proofs.OffsetLaws.{identifier-at, serial-at}
 use Rattle.table_judge.specs.Judge.{legalLive}
 
 -- ---- texts
@@ -39,12 +39,14 @@ be-small n i b h = rw length-gets at (be-lt (gets b i n) (bytes-gets n b i h))
 
 module _ (b : List ℕ) (run : PlaceRun current b) where
   text-of : textAt b ≡ textOf (placeOf current b)
-  unfolding placeOf
-  text-of = rw (← identifier-at b (run .1), ← serial-at b (run .1)) (sym (be-run 2 2 b 0 2 refl))
+  unfolding placeOf offset
+  text-of =
+      rw (field-at (placeFields current) identifierInPlace b (omega (arith, run .1)), field-at (placeFields current) serialInPlace b (omega (arith, run .1)))
+      (sym (be-run 2 2 b 0 2 refl))
 
   small : Small (placeOf current b)
-  unfolding placeOf
-  small = rw (← serial-at b (run .1)) (be-small 2 2 b (run .0))
+  unfolding placeOf offset
+  small = rw (field-at (placeFields current) serialInPlace b (omega (arith, run .1))) (be-small 2 2 b (run .0))
 
 same : (a b : Bool) → (a ≡ true → b ≡ true) → (b ≡ true → a ≡ true) → a ≡ b
 same true b f g = sym (f refl)

@@ -4,8 +4,9 @@ use mathlib.Core.List.{List, map}
 use Prim.Native.Nat.{ℕ, _+_, _*_}
 use lib.Dec.{eqb, leb}
 use lib.ListN.{length, take, drop}
+use Rattle.octets.specs.Fields.{fieldOf}
 use Rattle.rules.specs.Lists.{every, zeros, ascending}
-use Rattle.rules.specs.Layout.{current, fieldOf, placesInHeader, zeroInHeader, headerFields, placesPerCell, mostAreas, headerSize, mostCells}
+use Rattle.rules.specs.Layout.{current, placesInHeader, zeroInHeader, headerFields, placesPerCell, mostAreas, headerSize, mostCells}
 use Rattle.rules.specs.Table.{isLive, placeOf, legalPlace, cellCount, identityAt}
 
 -- at most four are used, the used ones come first and ascend, the rest is zero

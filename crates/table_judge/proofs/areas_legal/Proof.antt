@@ -1,8 +1,7 @@
 -- `areas_legal` says whether the used areas come first and ascend, and the rest is zero.
 -- The definition computes once the number of areas is known: one law for each of 0 to 4, and one for more.
 use native.Mathlib.Omega.{arith}
-use Rattle.rules.proofs.OffsetLaws.{areas-at}
-use Rattle.table_judge.proofs.ReadLaws.{areas-none, areas-one, areas-two, areas-three, areas-four, areas-more}
+use Rattle.table_judge.proofs.ReadLaws.{areas-at, areas-none, areas-one, areas-two, areas-three, areas-four, areas-more}
 use borrow.Author.Needs.{needs}
 use Rattle.table_judge.proofs.areas_legal.Statement.{statement}
 use Rattle.table_judge.proofs.areas_legal.Tie as tie

@@ -2,7 +2,9 @@
 -- A header that is not whole has the wrong length; else each read is a field.
 use native.Mathlib.Omega.{arith}
 use borrow.Author.Needs.{needs}
-use Rattle.rules.proofs.OffsetLaws.{count-at, places-at, spare-at}
+use Rattle.octets.specs.Fields.{offset}
+use Rattle.octets.proofs.FieldsLaws.{field-at}
+use Rattle.rules.specs.Layout.{headerFields, cellsInHeader, placesInHeader, zeroInHeader}
 use Rattle.table_judge.specs.Judge.{legalHeader}
 use Rattle.table_judge.proofs.ReadLaws.{header-short, cells-most}
 use Rattle.table_judge.proofs.header_legal.Statement.{statement}
@@ -33,10 +35,18 @@ add-result : tie.Need-add-result
 add-result c = let few = cells-most (c .before .before .get16 .ensures) (c .before .before .before .before .before .pre) in omega arith
 
 returns-2 : tie.Need-returns-2
-unfolding legalHeader
+unfolding legalHeader offset
 returns-2 c =
+    let t = c .before .before .before .before .before .args .table .now in
     let long = c .before .before .before .if1 .left in
-    rw (c .before .before .get16 .ensures, c .before .get8 .ensures, c .get64 .ensures, count-at _ long, places-at _ long, spare-at _ long)
+    rw (
+      c .before .before .get16 .ensures,
+      c .before .get8 .ensures,
+      c .get64 .ensures,
+      ← field-at headerFields cellsInHeader t (omega (arith, long)),
+      ← field-at headerFields placesInHeader t (omega (arith, long)),
+      ← field-at headerFields zeroInHeader t (omega (arith, long)),
+    )
 
 pub header-legal-spec : {M : Type 1} → statement M
 header-legal-spec =

@@ -1,8 +1,11 @@
 -- `live_legal` says whether a place is live and what a live one must be.
 -- The live byte and the last two bytes are fields; the rest is `legalPlace` of the place that the bytes say.
+use native.Mathlib.Omega.{arith}
 use borrow.Author.Needs.{needs}
+use Rattle.octets.specs.Fields.{offset}
+use Rattle.octets.proofs.FieldsLaws.{field-at}
+use Rattle.rules.specs.Layout.{current, placeFields, liveInPlace, zeroInPlace}
 use Rattle.rules.specs.Table.{isLive}
-use Rattle.rules.proofs.OffsetLaws.{live-at, filling-at}
 use Rattle.table_judge.specs.Judge.{legalLive}
 use Rattle.table_judge.proofs.live_legal.Statement.{statement}
 use Rattle.table_judge.proofs.live_legal.Tie as tie
@@ -20,11 +23,18 @@ terms-legal-requires : tie.Need-terms-legal-requires
 terms-legal-requires c κs = search needs
 
 returns : tie.Need-returns
-unfolding legalLive isLive
+unfolding legalLive isLive offset
 returns c =
     let b = c .before .before .before .before .before .args .place .now in
     let long = c .before .before .before .before .before .pre in
-    rw (c .before .before .before .get8 .ensures, live-at b long, c .before .before .get16 .ensures, filling-at b long, c .terms-legal .ensures, c .before .place-of .ensures)
+    rw (
+      c .before .before .before .get8 .ensures,
+      ← field-at (placeFields current) liveInPlace b (omega (arith, long)),
+      c .before .before .get16 .ensures,
+      ← field-at (placeFields current) zeroInPlace b (omega (arith, long)),
+      c .terms-legal .ensures,
+      c .before .place-of .ensures,
+    )
 
 pub live-legal-spec : {M : Type 1} → statement M
 live-legal-spec =

@@ -3,10 +3,11 @@
 use mathlib.Core.Path.{_∙_}
 use native.Mathlib.Omega.{arith}
 use borrow.Author.Tests.{le-leb, lt-leb}
+use Rattle.octets.specs.Fields.{offset}
+use Rattle.octets.proofs.FieldsLaws.{field-at}
 use Rattle.octets.proofs.MarkLaws.{mark-and-version}
-use Rattle.rules.specs.Layout.{tableMark}
+use Rattle.rules.specs.Layout.{headerFields, markField, versionField, tableMark}
 use Rattle.rules.specs.Table.{tableMarked}
-use Rattle.rules.proofs.OffsetLaws.{mark-at, version-at}
 use borrow.Author.Needs.{needs}
 use Rattle.table_judge.proofs.marked.Statement.{statement}
 use Rattle.table_judge.proofs.marked.Tie as tie
@@ -28,13 +29,13 @@ get8-requires : tie.Need-get8-requires
 get8-requires c κs = search needs
 
 returns-2 : tie.Need-returns-2
-unfolding tableMarked
+unfolding tableMarked offset
 returns-2 c =
     let t = c .before .before .before .before .args .table .now in
     let long = c .before .before .if1 .left in
     rw (c .before .get32 .ensures, c .get8 .ensures)
     (mark-and-version t (λ i. c .before .before .before .shared-slice-known .given i .fits) tableMark _ (omega arith)
-    ∙ rw (le-leb _ _ long, mark-at _ long, version-at _ long))
+    ∙ rw (le-leb _ _ long, ← field-at headerFields markField t (omega (arith, long)), ← field-at headerFields versionField t (omega (arith, long))))
 
 pub marked-spec : {M : Type 1} → statement M
 marked-spec =

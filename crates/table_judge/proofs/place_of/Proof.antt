@@ -1,8 +1,11 @@
 -- `place_of` returns the place that 24 bytes say.
--- Each read is a field of the layout, by its offset.
+-- Each read is the field that stands there: `field-at`.
+use native.Mathlib.Omega.{arith}
 use borrow.Author.Needs.{needs}
+use Rattle.octets.specs.Fields.{offset}
+use Rattle.octets.proofs.FieldsLaws.{field-at}
+use Rattle.rules.specs.Layout.{current, placeFields, identifierInPlace, serialInPlace, contentInPlace, periodInPlace, requestedInPlace, sentInPlace, waitInPlace, sibInPlace}
 use Rattle.rules.specs.Table.{placeOf}
-use Rattle.rules.proofs.OffsetLaws.{identifier-at, serial-at, content-at, period-at, requested-at, sent-at, wait-at, sib-at}
 use Rattle.table_judge.proofs.place_of.Statement.{statement}
 use Rattle.table_judge.proofs.place_of.Tie as tie
 
@@ -31,11 +34,28 @@ get8-requires : tie.Need-get8-requires
 get8-requires c κs = search needs
 
 returns : tie.Need-returns
-unfolding placeOf
+unfolding placeOf offset
 returns c =
     let b = c .before .before .before .before .before .before .before .before .before .args .place .now in
     let long = c .before .before .before .before .before .before .before .before .before .pre in
-    rw (c .before .before .before .before .before .before .before .get16 .ensures, identifier-at b long, c .before .before .before .before .before .before .get162 .ensures, serial-at b long, c .before .before .before .before .before .get32 .ensures, content-at b long, c .before .before .before .before .get322 .ensures, period-at b long, c .before .before .before .get163 .ensures, requested-at b long, c .before .before .get164 .ensures, sent-at b long, c .before .get323 .ensures, wait-at b long, c .get8 .ensures, sib-at b long)
+    rw (
+      c .before .before .before .before .before .before .before .get16 .ensures,
+      ← field-at (placeFields current) identifierInPlace b (omega (arith, long)),
+      c .before .before .before .before .before .before .get162 .ensures,
+      ← field-at (placeFields current) serialInPlace b (omega (arith, long)),
+      c .before .before .before .before .before .get32 .ensures,
+      ← field-at (placeFields current) contentInPlace b (omega (arith, long)),
+      c .before .before .before .before .get322 .ensures,
+      ← field-at (placeFields current) periodInPlace b (omega (arith, long)),
+      c .before .before .before .get163 .ensures,
+      ← field-at (placeFields current) requestedInPlace b (omega (arith, long)),
+      c .before .before .get164 .ensures,
+      ← field-at (placeFields current) sentInPlace b (omega (arith, long)),
+      c .before .get323 .ensures,
+      ← field-at (placeFields current) waitInPlace b (omega (arith, long)),
+      c .get8 .ensures,
+      ← field-at (placeFields current) sibInPlace b (omega (arith, long)),
+    )
 
 pub place-of-spec : {M : Type 1} → statement M
 place-of-spec =
