@@ -9,7 +9,8 @@ use lib.ListN.{length, getD, take, drop, set, length-append, length-drop, length
 use lib.Seq.{length-take-le, take-at, drop-at}
 use Rattle.octets.specs.Runs.{gets, Bytes}
 use Rattle.octets.specs.Fields.{size, numbers, fieldOf}
-use Rattle.octets.proofs.RunsLaws.{length-pieces, pieces-flat, bytes-take}
+use Rattle.octets.proofs.RunsLaws.{bytes-take}
+use Rattle.octets.proofs.PiecesLaws.{length-pieces, pieces-flat}
 use Rattle.octets.proofs.FieldsLaws.{fit-numbers, length-padded}
 use Rattle.octets.proofs.PartsLaws.{fit-set}
 use Rattle.rules.specs.Layout.{current, placeFields, sentInPlace, waitInPlace, headSize, placeSize, placesPerCell, cellSize}

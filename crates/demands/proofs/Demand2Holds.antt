@@ -6,7 +6,8 @@ use mathlib.Core.List.{List, [], map, append-assoc}
 use Prim.Native.Nat.{ℕ, _+_, _*_, _<_}
 use lib.ListN.{length, take, drop, getD}
 use Rattle.octets.specs.Runs.{Bytes}
-use Rattle.octets.proofs.RunsLaws.{length-pieces, sets-front}
+use Rattle.octets.proofs.RunsLaws.{sets-front}
+use Rattle.octets.proofs.PiecesLaws.{length-pieces}
 use Rattle.rules.specs.Layout.{current, headerSize, headSize, cellSize, answerSize, rowSize}
 use Rattle.rules.specs.Table.{cellOf, cellBytes, cellCount, cellRuns, cellsOf, tableBytes}
 use Rattle.rules.specs.Record.{requestOf, itemsOf, renewed}

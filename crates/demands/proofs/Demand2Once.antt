@@ -5,7 +5,7 @@ use mathlib.Core.List.{List, [], _++_, flatMap}
 use Prim.Native.Nat.{ℕ, _<_}
 use lib.ListN.{length, take, drop}
 use lib.Seq.{ext-getD}
-use Rattle.octets.proofs.RunsLaws.{length-pieces}
+use Rattle.octets.proofs.PiecesLaws.{length-pieces}
 use Rattle.rules.specs.Layout.{current, headerSize, cellSize}
 use Rattle.rules.specs.Table.{cellOf, cellCount, cellRuns}
 use Rattle.rules.specs.Record.{requestOf}

@@ -9,7 +9,7 @@ use lib.Dec.{leb}
 use lib.ListN.{length, drop, getD}
 use borrow.Author.Tests.{le-leb}
 use Rattle.octets.specs.Runs.{Bytes}
-use Rattle.octets.proofs.RunsLaws.{length-pieces}
+use Rattle.octets.proofs.PiecesLaws.{length-pieces}
 use Rattle.rules.specs.Lists.{ascending}
 use Rattle.rules.specs.Layout.{current, headerSize, cellSize}
 use Rattle.rules.specs.Table.{Cell, cellOf, cellCount, cellRuns, cellsOf}

@@ -10,7 +10,8 @@ use lib.ListN.{length}
 use lib.Seq.{sets}
 use borrow.Author.Tests.{eqb-true, eq-eqb, le-leb, lt-leb}
 use Rattle.octets.specs.Runs.{Bytes}
-use Rattle.octets.proofs.RunsLaws.{sets-back-first, length-flatMap}
+use Rattle.octets.proofs.RunsLaws.{sets-back-first}
+use Rattle.octets.proofs.PiecesLaws.{length-flatMap}
 use Rattle.rules.specs.Layout.{current, headerSize, recordSize, answerSize, rowSize, longestPeriod}
 use Rattle.rules.specs.Table.{cellOf, cellCount, cellRuns, cellsOf, tableBytes, placeBytes}
 use Rattle.rules.specs.Record.{writeReplace, unknownKind, kindOf, requestOf, itemsOf}

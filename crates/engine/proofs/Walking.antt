@@ -10,8 +10,8 @@ use borrow.Rule.Slice.PartMut.{putMid, midOf, same-len-mid}
 use lib.ListN.{length, take, drop, length-append, length-drop, drop-of-length-le}
 use lib.Seq.{sets, sets-eq, length-sets, take-add, take-at, drop-at, drop-drop, take-all, length-take-le}
 use Rattle.octets.specs.Runs.{Bytes, pieces}
-use Rattle.octets.proofs.PiecesLaws.{pieces-more}
-use Rattle.octets.proofs.RunsLaws.{sets-run, length-flatMap, bytes-drop, bytes-take}
+use Rattle.octets.proofs.PiecesLaws.{pieces-more, length-flatMap}
+use Rattle.octets.proofs.RunsLaws.{sets-run, bytes-drop, bytes-take}
 use Rattle.rules.specs.Lists.{every}
 use Rattle.rules.specs.Layout.{current, cellSize, rowSize, answerSize}
 use Rattle.rules.specs.Table.{legalCell}

@@ -1,4 +1,5 @@
 -- Bytes copied sixteen at a time: the last sixteen may be stored over some of those before them.
+-- Index by index, by two tests of the index: before the run, in it, behind it.
 use mathlib.Core.Path.{_≡_, refl, sym, ap, _∙_}
 use mathlib.Core.List.{List, _++_}
 use Prim.Native.Nat.{ℕ, _+_, _-_, _≤_}

@@ -11,7 +11,8 @@ use lib.Dec.{ltb}
 use borrow.Author.Tests.{le-leb, lt-leb, ltb-true, ltb-false}
 use Rattle.octets.specs.Runs.{gets, pieces}
 use Rattle.octets.specs.Numbers.{be}
-use Rattle.octets.proofs.RunsLaws.{gets-eq, pieces-at}
+use Rattle.octets.proofs.RunsLaws.{gets-eq}
+use Rattle.octets.proofs.PiecesLaws.{pieces-at}
 use Rattle.rules.specs.Layout.{current, recordSize, itemSize}
 use Rattle.rules.specs.Record.{itemCount, itemsOf}
 use Rattle.rules.specs.Refusals.{recordVerdict}

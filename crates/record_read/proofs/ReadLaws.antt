@@ -7,7 +7,7 @@ use Prim.Native.Nat.{ℕ, _+_, _*_, _≤_, _<_}
 use native.Mathlib.Omega.{arith}
 use lib.Dec.{eqb, leb}
 use lib.ListN.{length, drop, getD, length-map}
-use Rattle.octets.proofs.RunsLaws.{length-pieces}
+use Rattle.octets.proofs.PiecesLaws.{length-pieces}
 use Rattle.octets.proofs.FieldsLaws.{field-at, field-within}
 use Rattle.octets.proofs.MarkLaws.{mark-and-version}
 use borrow.Author.Tests.{leb-true, le-leb, lt-leb, eq-eqb, ne-eqb, not-true, not-false}

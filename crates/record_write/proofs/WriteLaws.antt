@@ -10,7 +10,8 @@ use lib.Seq.{sets, drop-cons}
 use borrow.Author.Tests.{le-leb, lt-leb}
 use Rattle.octets.specs.Numbers.{toBe}
 use Rattle.octets.specs.Fields.{bytesOf, offset}
-use Rattle.octets.proofs.RunsLaws.{sets-run, length-flatMap}
+use Rattle.octets.proofs.RunsLaws.{sets-run}
+use Rattle.octets.proofs.PiecesLaws.{length-flatMap}
 use Rattle.octets.proofs.NumbersLaws.{length-toBe}
 use Rattle.rules.specs.Layout.{current, longestPeriod, recordFields, recordSize, itemSize, recordMark, recordVersion, mostItems}
 use Rattle.rules.specs.Record.{requestNumbers, recordBytes}

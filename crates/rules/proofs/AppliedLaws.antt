@@ -10,7 +10,7 @@ use lib.ListN.{length, take, length-map, length-append}
 use lib.Seq.{sets, take-at}
 use borrow.Author.Tests.{leb-true, lt-ltb}
 use Rattle.octets.specs.Runs.{Bytes}
-use Rattle.octets.proofs.RunsLaws.{length-flatMap}
+use Rattle.octets.proofs.PiecesLaws.{length-flatMap}
 use Rattle.octets.proofs.FieldsLaws.{fit-numbers}
 use Rattle.rules.specs.Layout.{Version, longestPeriod, headerSize, cellSize, recordFields, answerFields, rowFields, answerSize, rowSize, answerMark, answerVersion}
 use Rattle.rules.specs.Table.{Cell, cellOf, cellBytes, legalCell, cellCount, cellRuns, cellsOf, headerBytes, tableBytes}

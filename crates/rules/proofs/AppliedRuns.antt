@@ -7,7 +7,7 @@ use Prim.Native.Nat.{ℕ, _+_, _*_}
 use native.Mathlib.Omega.{arith}
 use lib.ListN.{length, take, drop, length-drop, take-append-drop}
 use Rattle.octets.specs.Runs.{Bytes}
-use Rattle.octets.proofs.RunsLaws.{pieces-flat}
+use Rattle.octets.proofs.PiecesLaws.{pieces-flat}
 use Rattle.rules.specs.Layout.{Version, headerSize, cellSize}
 use Rattle.rules.specs.Table.{Cell, cellOf, cellCount, cellRuns, cellsOf}
 use Rattle.rules.specs.Record.{writeReplace, requestOf, itemsOf}

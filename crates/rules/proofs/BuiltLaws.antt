@@ -7,7 +7,8 @@ use Prim.Native.Nat.{ℕ, _+_, _*_, _≤_}
 use native.Mathlib.Omega.{arith}
 use lib.ListN.{length, take, length-map}
 use Rattle.octets.specs.Runs.{Bytes}
-use Rattle.octets.proofs.RunsLaws.{length-pieces, take-sets-front}
+use Rattle.octets.proofs.RunsLaws.{take-sets-front}
+use Rattle.octets.proofs.PiecesLaws.{length-pieces}
 use Rattle.rules.specs.Layout.{current, headerSize, headSize, cellSize}
 use Rattle.rules.specs.Table.{cellsOf, tableBytes}
 use Rattle.rules.specs.Refusals.{tableVerdict, headCount, headRuns, legalHeads, buildTests, buildVerdict}

@@ -8,7 +8,8 @@ use native.Mathlib.Omega.{arith}
 use lib.ListN.{length, take, drop, length-append, length-drop, take-append-drop}
 use lib.Seq.{length-take-le, take-at, drop-at}
 use Rattle.octets.specs.Runs.{Bytes}
-use Rattle.octets.proofs.RunsLaws.{length-pieces, pieces-flat, bytes-take, bytes-drop, bytes-append}
+use Rattle.octets.proofs.RunsLaws.{bytes-take, bytes-drop, bytes-append}
+use Rattle.octets.proofs.PiecesLaws.{length-pieces, pieces-flat}
 use Rattle.rules.specs.Layout.{Version, headSize, placeSize, placesPerCell, cellSize}
 use Rattle.rules.specs.Table.{Cell, headBytes, legalHead, legalPlaces, placeRuns, cellOf, placesBytes, cellBytes, legalCell}
 use Rattle.rules.specs.Sound.{soundHead, soundPlaces, soundCell}

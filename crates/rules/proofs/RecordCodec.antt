@@ -10,7 +10,8 @@ use lib.Seq.{drop-at, length-take-le}
 use Rattle.octets.specs.Runs.{Bytes, pieces}
 use Rattle.octets.specs.Numbers.{be, toBe}
 use Rattle.octets.specs.Fields.{numbers, bytesOf, Fit, fieldOf}
-use Rattle.octets.proofs.RunsLaws.{length-pieces, pieces-flatMap, bytes-take, bytes-drop}
+use Rattle.octets.proofs.RunsLaws.{bytes-take, bytes-drop}
+use Rattle.octets.proofs.PiecesLaws.{length-pieces, pieces-flatMap}
 use Rattle.octets.proofs.NumbersLaws.{length-toBe, be-toBe, toBe-be}
 use Rattle.octets.proofs.FieldsLaws.{numbers-bytesOf, bytesOf-numbers, length-bytesOf}
 use Rattle.rules.specs.Layout.{markField, versionField, recordFields, recordSize, itemSize, recordMark, recordVersion}

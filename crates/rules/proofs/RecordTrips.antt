@@ -10,7 +10,7 @@ use lib.ListN.{length, getD, length-append}
 use borrow.Author.Tests.{ltb-true, leb-true, eqb-true, not-true, lt-ltb, le-leb, eq-eqb}
 use Rattle.octets.specs.Numbers.{toBe}
 use Rattle.octets.specs.Fields.{Fit, fieldOf}
-use Rattle.octets.proofs.RunsLaws.{length-flatMap}
+use Rattle.octets.proofs.PiecesLaws.{length-flatMap}
 use Rattle.octets.proofs.NumbersLaws.{length-toBe}
 use Rattle.octets.proofs.FieldsLaws.{length-bytesOf}
 use Rattle.rules.specs.Lists.{every}

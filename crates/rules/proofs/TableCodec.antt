@@ -11,7 +11,8 @@ use lib.ListN.{length, take, drop, length-append, length-drop, length-map, take-
 use lib.Seq.{take-all, drop-at}
 use Rattle.octets.specs.Runs.{Bytes}
 use Rattle.octets.specs.Fields.{size, numbers, Fit, fieldOf}
-use Rattle.octets.proofs.RunsLaws.{length-pieces, pieces-flat, pieces-flatMap, length-flatMap, bytes-drop, bytes-append}
+use Rattle.octets.proofs.RunsLaws.{bytes-drop, bytes-append}
+use Rattle.octets.proofs.PiecesLaws.{length-pieces, pieces-flat, pieces-flatMap, length-flatMap}
 use Rattle.octets.proofs.FieldsLaws.{numbers-bytesOf, bytesOf-numbers, bytes-bytesOf}
 use Rattle.rules.specs.Lists.{every, ascending}
 use Rattle.rules.specs.Layout.{Version, markField, versionField, placesInHeader, zeroInHeader, headerFields, headerSize, headSize, cellSize, placesPerCell, tableMark, versionNumber, mostCells}

@@ -1,7 +1,11 @@
 pub mod ListLaws
+pub mod ListCodec
 pub mod PlaceLaws
 pub mod ScanLaws
+pub mod PassLaws
 pub mod PartLaws
+pub mod LengthsLaws
+pub mod CutLaws
 pub mod PackLaws
 pub mod Packing
 pub mod Once

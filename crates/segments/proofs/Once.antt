@@ -1,4 +1,5 @@
 -- One outcome only: what a public function of this crate returns and leaves, its contract settles. Of a reference: its bytes and where they lie.
+-- Each promise is an equation with a definition, and no two parts or writings say the same.
 use mathlib.Core.Path.{_≡_, ap}
 use mathlib.Core.List.{List}
 use Prim.Native.Nat.{ℕ}

@@ -1,72 +1,20 @@
 -- A list packed segment by segment: what is still to be stored, stored behind what stands there, gives the whole list.
+-- A turn stores one segment, which is the first of the list still to come.
 use mathlib.Core.Path.{_≡_, refl, sym, ap, _∙_}
 use mathlib.Core.Bool.{true}
 use mathlib.Core.List.{List, _∷_, _++_, flatMap}
 use Prim.Native.Nat.{ℕ, suc, _+_, _-_, _*_, _<_, _≤_}
 use native.Mathlib.Nat.{add-sub-cancel-left}
 use native.Mathlib.Omega.{arith}
-use lib.Dec.{leb}
 use lib.ListN.{length, getD, take, drop, length-drop, drop-of-length-le}
-use lib.Seq.{sets, length-sets, length-take-le, drop-cons, drop-drop}
-use borrow.Author.Tests.{le-leb, leb-true}
+use lib.Seq.{sets, length-take-le, length-sets, drop-cons, drop-drop}
 use Rattle.octets.specs.Numbers.{toBe}
-use Rattle.octets.proofs.NumbersLaws.{length-toBe}
 use Rattle.octets.proofs.RunsLaws.{sets-run}
-use Rattle.rules.specs.Refusals.{refuseUnless, _then_}
-use Rattle.rules.specs.Applied.{fill, filledBy}
-use Rattle.rules.specs.declared.Writing.the-variants.{Written, Unwritten}
-use Rattle.rules.specs.declared.Refusal.{Refusal}
-use Rattle.rules.specs.declared.Refusal.the-variants.{ListDamaged, TooManySegments, ShortBuffer}
-use Rattle.rules.specs.declared.Verdict.the-variants.{Accepted, Refused}
-use Rattle.rules.proofs.VerdictLaws.{then-accepted, unless-accepted}
-use Rattle.segments.specs.Segments.{lengthSize, longestSegment, mostSegments, segmentBytes, listBytes, cutAt, lengthsFit, packVerdict, packed}
+use Rattle.octets.proofs.NumbersLaws.{length-toBe}
+use Rattle.segments.specs.Segments.{lengthSize, longestSegment, segmentBytes, listBytes, cutAt, lengthsFit}
 use Rattle.segments.specs.Within.{ToPack}
 use Rattle.segments.proofs.ListLaws.{length-segment, list-cons}
-use Rattle.segments.proofs.PackLaws.{fit-next, fit-first, length-cut}
-
--- ---- what an accepted packing says
-
-pub record AcceptedPack (bytes lengths : List ℕ) (room : ℕ) : Type 0 where
-  pub fit : lengthsFit lengths (length bytes) ≡ true
-  pub few : length lengths ≤ mostSegments
-  pub holds : length (listBytes (cutAt lengths bytes)) ≤ room
-
-module _ (bytes lengths : List ℕ) (room : ℕ) (v : packVerdict bytes lengths room ≡ Accepted) where
-  pub pack-says : AcceptedPack bytes lengths room
-  unfolding packVerdict
-  pack-says =
-      let few = refuseUnless (leb (length lengths) mostSegments) TooManySegments in
-      let holds = refuseUnless (leb (length (listBytes (cutAt lengths bytes))) room) ShortBuffer in
-      let a = then-accepted (refuseUnless (lengthsFit lengths (length bytes)) ListDamaged) (few then holds) v in
-      let b = then-accepted few holds (a .1) in
-      record {
-        fit = unless-accepted (lengthsFit lengths (length bytes)) ListDamaged (a .0);
-        few = leb-true (length lengths) mostSegments (unless-accepted (leb (length lengths) mostSegments) TooManySegments (b .0));
-        holds = leb-true (length (listBytes (cutAt lengths bytes))) room (unless-accepted (leb (length (listBytes (cutAt lengths bytes))) room) ShortBuffer (b .1));
-      }
-
-  pack-size : length (listBytes (cutAt lengths bytes)) ≡ lengthSize * length lengths + length bytes
-  pack-size = length-cut lengths bytes (pack-says .fit)
-
-  pub pack-ready : ToPack bytes lengths room
-  pack-ready = record { fit = pack-says .fit; holds = omega (arith, pack-says .holds, pack-size) }
-
-pub accepted-pack : (bytes lengths : List ℕ) (room : ℕ) → AcceptedPack bytes lengths room → packVerdict bytes lengths room ≡ Accepted
-unfolding packVerdict
-accepted-pack bytes lengths room a =
-    rw (a .fit, le-leb (length lengths) mostSegments (a .few), le-leb (length (listBytes (cutAt lengths bytes))) room (a .holds))
-
--- ---- the outcome
-
-module _ (bytes lengths list list′ : List ℕ) where
-  pub pack-done : packVerdict bytes lengths (length list) ≡ Accepted → list′ ≡ sets list 0 (listBytes (cutAt lengths bytes))
-      → filledBy (Written (lengthSize * length lengths + length bytes)) list′ ≡ packed bytes lengths list
-  unfolding packed fill
-  pack-done v e = rw (v, e, sym (pack-size bytes lengths (length list) v))
-
-  pub pack-refused : (x : Refusal) → packVerdict bytes lengths (length list) ≡ Refused x → list′ ≡ list → filledBy (Unwritten x) list′ ≡ packed bytes lengths list
-  unfolding packed fill
-  pack-refused x v e = rw (v, e)
+use Rattle.segments.proofs.LengthsLaws.{fit-next, fit-first}
 
 -- ---- one segment
 

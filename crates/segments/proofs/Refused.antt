@@ -1,4 +1,5 @@
 -- A refusal: an empty part, or a buffer as it was.
+-- By the verdict; an accepted one has the number 0.
 use mathlib.Core.Path.{_≡_, refl}
 use mathlib.Core.List.{List}
 use Prim.Native.Nat.{ℕ, zero, suc}

@@ -1,4 +1,5 @@
--- The samples hold: each is computed, both sides are the same bytes.
+-- The samples hold.
+-- Each is computed: both sides are the same bytes.
 use mathlib.Core.Path.{refl}
 use mathlib.Core.List.{flatMap}
 use Rattle.octets.specs.Numbers.{be, toBe}

@@ -1,4 +1,5 @@
 -- One pass over a list: between two segments, those that were passed are the first of the list's, and the bytes still to come hold the rest.
+-- A turn passes the first segment of what is still to come; where that has no whole one, all were passed.
 use mathlib.Core.Path.{_≡_, refl, sym, ap, _∙_}
 use mathlib.Core.List.{List, [], _∷_, flatMap}
 use Prim.Native.Nat.{ℕ, suc, _+_, _-_, _<_, _≤_}
@@ -60,7 +61,8 @@ said-there : (l : List ℕ) (end n : ℕ) → n ≡ be (gets l end lengthSize) �
 unfolding firstLength
 said-there l end n said long = ap be (sym (gets-eq lengthSize l end long)) ∙ sym said
 
-module _ {l : List ℕ} {k count end start size : ℕ} (g : Scanning l k count end start size) (n : ℕ) (said : n ≡ be (gets l end lengthSize)) (long : lengthSize ≤ length l - end) (whole : n ≤ length l - (end + lengthSize)) where
+module _ {l : List ℕ} {k count end start size : ℕ} (g : Scanning l k count end start size) (n : ℕ) (said : n ≡ be (gets l end lengthSize))
+    (long : lengthSize ≤ length l - end) (whole : n ≤ length l - (end + lengthSize)) where
   says : firstLength (drop end l) ≡ n
   says = said-there l end n said (omega (arith, g .within))
 

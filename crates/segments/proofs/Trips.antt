@@ -1,64 +1,30 @@
 -- Both round trips, of what `pack`, `segment` and `number` promise: what was packed reads back segment by segment, and what was read packs to the same bytes.
-use mathlib.Core.Path.{_≡_, refl, sym, ap, subst, _∙_}
-use mathlib.Core.Bool.{true}
-use mathlib.Core.List.{List, [], _∷_, _++_, map, flatMap}
-use Prim.Native.Nat.{ℕ, zero, suc, _+_, _-_, _^_, _<_, _≤_}
+-- The promises lead to lists and their bytes, of which ListCodec has both trips.
+use mathlib.Core.Path.{_≡_, sym, ap, subst, _∙_}
+use mathlib.Core.List.{List, [], _∷_, map}
+use Prim.Native.Nat.{ℕ, zero, suc, _+_, _<_, _≤_}
 use native.Mathlib.Omega.{arith}
 use lib.Dec.{leb}
-use lib.ListN.{length, getD, take, drop, length-append, length-drop, length-map}
-use lib.Seq.{sets, ext-getD, take-append-seam, drop-append-seam, length-take-le}
+use lib.ListN.{length, getD, take, length-map}
+use lib.Seq.{sets, ext-getD}
 use borrow.Author.Tests.{le-leb, lt-leb, leb-true, leb-false}
 use Rattle.octets.specs.Runs.{Bytes}
-use Rattle.octets.proofs.RunsLaws.{take-sets-front, bytes-take, bytes-drop}
-use Rattle.octets.proofs.NumbersLaws.{be-lt}
+use Rattle.octets.proofs.RunsLaws.{take-sets-front}
 use Rattle.rules.specs.Refusals.{writingNumber, writingLength, numberOf}
 use Rattle.rules.specs.Applied.{Filled, fill, filledBy}
 use Rattle.rules.specs.declared.Writing.{Writing}
+use Rattle.rules.specs.declared.Verdict.the-variants.{Accepted}
 use Rattle.rules.specs.declared.Writing.the-variants.{Written}
 use Rattle.rules.specs.declared.Refusal.the-variants.{NoSuchSegment}
-use Rattle.rules.specs.declared.Verdict.the-variants.{Accepted}
-use Rattle.rules.proofs.AllLaws.{All, none, more}
-use Rattle.rules.proofs.ListsLaws.{by-test}
 use Rattle.rules.proofs.OnceLaws.{writing-injective}
 use Rattle.rules.proofs.OutcomeLaws.{fill-accepted}
-use Rattle.segments.specs.Segments.{mostSegments, lengthSize, listBytes, firstLength, firstEnd, firstOf, segmentsIn, segmentsOf, wholeList, segmentVerdict, segmentOf, lying, liesAt, cutAt, lengthsFit, packVerdict, packed}
-use Rattle.segments.proofs.ListLaws.{Sayable, in-more, in-none, segments-packed, packed-whole, packed-segments}
-use Rattle.segments.proofs.PackLaws.{fit-first, fit-next, fit-none}
+use Rattle.rules.proofs.AllLaws.{All}
+use Rattle.rules.proofs.ListsLaws.{by-test}
+use Rattle.segments.specs.Segments.{mostSegments, listBytes, segmentsOf, wholeList, segmentVerdict, segmentOf, lying, liesAt, cutAt, packVerdict, packed}
+use Rattle.segments.proofs.ListCodec.{Sayable, in-sayable, segments-packed, packed-whole, packed-segments}
 use Rattle.segments.proofs.PartLaws.{AcceptedList, list-accepted, accepted-list, lies-accepted}
-use Rattle.segments.proofs.Packing.{AcceptedPack, pack-says, accepted-pack}
-
--- ---- bytes cut at their lengths
-
-length-cutAt : (ns bs : List ℕ) → length (cutAt ns bs) ≡ length ns
-unfolding cutAt
-length-cutAt [] bs = refl
-length-cutAt (n ∷ ns) bs = ap suc (length-cutAt ns (drop n bs))
-
-cut-sayable : (ns bs : List ℕ) → lengthsFit ns (length bs) ≡ true → All Sayable (cutAt ns bs)
-unfolding cutAt
-cut-sayable [] bs e = none
-cut-sayable (n ∷ ns) bs e =
-    let h = fit-first n ns (length bs) e in
-    let rest : lengthsFit ns (length (drop n bs)) ≡ true = rw (length-drop n bs) (sym (fit-next n ns (length bs) (h .0) (h .1)) ∙ e) in
-    let short : Sayable (take n bs) = rw (length-take-le n bs (h .1)) (h .0) in
-    more short (cut-sayable ns (drop n bs) rest)
-
--- and back: segments in a row, cut at their own lengths
-abbrev pub inRow : List (List ℕ) → List ℕ
-inRow ss = flatMap (λ s. s) ss
-
-cut-back : (ss : List (List ℕ)) → cutAt (map length ss) (inRow ss) ≡ ss
-unfolding cutAt flatMap
-cut-back [] = refl
-cut-back (s ∷ ss) = rw (take-append-seam s (inRow ss), drop-append-seam s (inRow ss), cut-back ss)
-
-fit-back : {ss : List (List ℕ)} → All Sayable ss → lengthsFit (map length ss) (length (inRow ss)) ≡ true
-unfolding flatMap
-fit-back none = fit-none 0
-fit-back (more {x = s} {xs = ss} h hs) =
-    let sum : length (s ++ inRow ss) ≡ length s + length (inRow ss) = length-append s (inRow ss) in
-    let rest : length (s ++ inRow ss) - length s ≡ length (inRow ss) = omega arith in
-    fit-next (length s) (map length ss) (length (s ++ inRow ss)) h (omega arith) ∙ ap (lengthsFit (map length ss)) rest ∙ fit-back hs
+use Rattle.segments.proofs.CutLaws.{length-cutAt, cut-sayable, inRow, cut-back, fit-back}
+use Rattle.segments.proofs.PackLaws.{AcceptedPack, pack-says, accepted-pack}
 
 number-accepted : (first list : List ℕ) (k : ℕ) → segmentVerdict list k ≡ Accepted → liesAt first list k .number ≡ 0
 unfolding liesAt lying
@@ -112,25 +78,6 @@ module _ (bytes lengths buffer : List ℕ) (x : Writing) (b : List ℕ) (promise
       rw (a .whole, many, le-leb (length lengths) mostSegments (says .few), lt-leb k (length lengths) h)
 
 -- ---- read, then packed
-
--- no segment that a list of bytes holds is longer than two bytes can say
-first-sayable : (l : List ℕ) → Bytes l → firstEnd l ≤ length l → Sayable (firstOf l)
-unfolding firstLength
-first-sayable l bytes h =
-    let room : firstLength l ≤ length (drop lengthSize l) = rw (length-drop lengthSize l) (omega arith) in
-    let two : length (take lengthSize l) ≡ lengthSize = length-take-le lengthSize l (omega arith) in
-    let small : firstLength l < 256 ^ lengthSize = rw two at (be-lt (take lengthSize l) (bytes-take lengthSize l bytes)) in
-    rw (length-take-le (firstLength l) (drop lengthSize l) room) (omega arith)
-
-in-sayable : (n : ℕ) (l : List ℕ) → Bytes l → All Sayable (segmentsIn n l)
-unfolding segmentsIn
-in-sayable zero l bytes = none
-in-sayable (suc n) l bytes =
-    by-test (leb (firstEnd l) (length l))
-    (λ t.
-    let h = leb-true (firstEnd l) (length l) t in
-    rw (in-more n l h) (more (first-sayable l bytes h) (in-sayable n (drop (firstEnd l) l) (bytes-drop (firstEnd l) l bytes))))
-    (λ t. rw (in-none (suc n) l (leb-false (firstEnd l) (length l) t)) none)
 
 later-accepted : (list : List ℕ) (n k : ℕ) → AcceptedList list n → k ≤ length (segmentsOf list) → segmentVerdict list k ≡ Accepted
 later-accepted list n k a h = accepted-list list k (record { whole = a .whole; few = a .few; among = h })

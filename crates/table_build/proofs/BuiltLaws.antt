@@ -10,7 +10,8 @@ use lib.ListN.{length, length-map}
 use lib.Seq.{sets}
 use Rattle.octets.specs.Runs.{Bytes}
 use Rattle.octets.specs.Fields.{padded}
-use Rattle.octets.proofs.RunsLaws.{length-pieces, sets-run}
+use Rattle.octets.proofs.RunsLaws.{sets-run}
+use Rattle.octets.proofs.PiecesLaws.{length-pieces}
 use Rattle.rules.specs.Layout.{current, headerSize, headSize, cellSize, mostCells}
 use Rattle.rules.specs.Table.{Cell, legalHead, headerBytes, placesBytes, cellBytes, tableBytes}
 use Rattle.rules.specs.Refusals.{headCount, headRuns, legalHeads, buildVerdict}

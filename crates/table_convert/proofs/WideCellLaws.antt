@@ -11,7 +11,8 @@ use lib.ListN.{length, take, drop, length-append}
 use lib.Seq.{take-at, drop-at, length-take-le}
 use Rattle.octets.specs.Runs.{Bytes, pieces}
 use Rattle.octets.specs.Fields.{fieldOf}
-use Rattle.octets.proofs.RunsLaws.{bytes-take, bytes-append, pieces-flatMap, length-flatMap, length-pieces}
+use Rattle.octets.proofs.RunsLaws.{bytes-take, bytes-append}
+use Rattle.octets.proofs.PiecesLaws.{pieces-flatMap, length-flatMap, length-pieces}
 use Rattle.octets.proofs.FieldsLaws.{numbers-zeros}
 use Rattle.rules.specs.Lists.{every}
 use Rattle.rules.specs.Layout.{version1, current, placeFields, placeSize, placesPerCell, headSize, cellSize, longestPeriod}

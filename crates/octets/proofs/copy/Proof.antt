@@ -53,7 +53,11 @@ same-length-2 : tie.Need-same-length-2 Inv-loop μ-loop
 same-length-2 c = search needs
 
 returns-2 : tie.Need-returns-2 Inv-loop μ-loop
-returns-2 c = copying-ends (c .before .before .before .before .before .loop .inv) _ (omega arith) (c .before .before .before .before .loop-test .left) (c .before .before .before .before .before .before .before .before .before .pre) _ (c .before .before .copy162 .ensures)
+returns-2 c =
+    let last = c .before .before in
+    let done = last .before .before in
+    let start = done .before .before .before .before .before in
+    copying-ends (done .before .loop .inv) _ (omega arith) (done .loop-test .left) (start .pre) _ (last .copy162 .ensures)
 
 pub copy-spec : {M : Type 1} → statement M
 copy-spec =

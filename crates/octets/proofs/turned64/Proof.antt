@@ -1,4 +1,5 @@
--- `turned64` returns the number with its eight bytes turned round, as `turn64` does.
+-- `turned64` returns the number with its eight bytes turned round.
+-- It is what `turn64` returns.
 use borrow.Author.Needs.{needs}
 use Rattle.octets.proofs.turned64.Statement.{statement}
 use Rattle.octets.proofs.turned64.Tie as tie

@@ -1,4 +1,5 @@
 -- `copy16` stores sixteen bytes as two numbers.
+-- Both are loaded and stored least byte first, so their bytes are those that were there: `copied-16`.
 use borrow.Author.Needs.{needs}
 use Rattle.octets.proofs.CopyLaws.{copied-16}
 use Rattle.octets.proofs.moved.copy16.Statement.{statement}
@@ -26,7 +27,12 @@ same-length : tie.Need-same-length
 same-length c = search needs
 
 returns : tie.Need-returns
-returns c = copied-16 _ _ _ _ _ _ _ _ (λ j. c .before .before .before .before .before .before .before .before .before .before .shared-slice-known .given j .fits) (c .before .before .before .before .before .before .before .before .before .load64 .ensures) (c .before .before .before .before .before .before .before .before .load642 .ensures) (c .before .before .before .before .before .before .store64 .ensures) (c .before .before .store642 .ensures)
+returns c =
+    let second = c .before .before in
+    let first = second .before .before .before .before in
+    let loaded = first .before .before in
+    copied-16 _ _ _ _ _ _ _ _ (λ j. loaded .before .before .shared-slice-known .given j .fits) (loaded .before .load64 .ensures) (loaded .load642 .ensures)
+    (first .store64 .ensures) (second .store642 .ensures)
 
 pub copy16-spec : {M : Type 1} → statement M
 copy16-spec =

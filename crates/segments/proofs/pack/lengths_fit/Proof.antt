@@ -3,7 +3,7 @@
 use Prim.Native.Nat.{_-_}
 use lib.ListN.{length}
 use borrow.Author.Needs.{needs}
-use Rattle.segments.proofs.PackLaws.{StillToFit, fit-starts, fit-goes, fit-fails-long, fit-fails-many, fit-ends}
+use Rattle.segments.proofs.LengthsLaws.{StillToFit, fit-starts, fit-goes, fit-fails-long, fit-fails-many, fit-ends}
 use Rattle.segments.proofs.pack.lengths_fit.Statement.{statement}
 use Rattle.segments.proofs.pack.lengths_fit.Tie as tie
 

@@ -1,7 +1,8 @@
 -- `pack` fills the buffer as its verdict says.
+-- An accepted packing has room for the list that is stored; a refused one stores nothing.
 use mathlib.Core.Path.{refl, sym, _∙_}
 use borrow.Author.Needs.{needs}
-use Rattle.segments.proofs.Packing.{pack-ready, pack-done, pack-refused}
+use Rattle.segments.proofs.PackLaws.{pack-ready, pack-done, pack-refused}
 use Rattle.segments.proofs.pack.pack.Statement.{statement}
 use Rattle.segments.proofs.pack.pack.Tie as tie
 
@@ -27,7 +28,10 @@ same-length : tie.Need-same-length
 same-length c = search needs
 
 returns : tie.Need-returns
-returns c = pack-done _ _ _ _ (sym (c .before .before .before .before .before .before .verdict .ensures) ∙ c .before .before .before .before .enum-told .given .1) (c .before .before .put-segments .ensures)
+returns c =
+    let stored = c .before .before in
+    let accepted = stored .before .before in
+    pack-done _ _ _ _ (sym (accepted .before .before .verdict .ensures) ∙ accepted .enum-told .given .1) (stored .put-segments .ensures)
 
 returns-2 : tie.Need-returns-2
 returns-2 c = pack-refused _ _ _ _ _ (sym (c .before .before .before .verdict .ensures) ∙ c .before .refusal .given .1) refl

@@ -1,4 +1,5 @@
 -- `put_segment` stores the length, and the segment behind it.
+-- Two stores in a row are one: `segment-stored`.
 use borrow.Author.Needs.{needs}
 use Rattle.segments.proofs.Packing.{segment-stored}
 use Rattle.segments.proofs.pack.put_segment.Statement.{statement}

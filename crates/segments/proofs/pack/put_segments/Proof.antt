@@ -15,6 +15,10 @@ Inv-loop bytes lengths list₀ from₀ at₀ k₀ list from at k = Packing bytes
 abbrev μ-loop : tie.MeasureT-loop
 μ-loop bytes lengths list₀ from₀ at₀ k₀ list from at k = length lengths - k
 
+-- the stage of a turn: a segment is still to be stored
+abbrev AtSegment : Type 0
+AtSegment = tie.In-loop Inv-loop μ-loop
+
 loop-holds : tie.Need-loop-holds Inv-loop μ-loop
 loop-holds c = packing-starts _ _ _ (c .before .before .before .pre)
 
@@ -37,13 +41,23 @@ part-put-segment-end : tie.Need-part-put-segment-end Inv-loop μ-loop
 part-put-segment-end c = omega (arith, next-within (c .before .before .before .loop .inv) (c .before .before .loop-test .taken) _ refl)
 
 put-segment-requires : tie.Need-put-segment-requires Inv-loop μ-loop
-put-segment-requires c κs = (next-room (c .before .before .before .before .loop .inv) (c .before .before .before .loop-test .taken) _ refl, omega (arith, own-long (c .before .before .before .before .loop .inv) (c .before .before .before .loop-test .taken) _ refl, next-short (c .before .before .before .before .loop .inv) (c .before .before .before .loop-test .taken) _ refl))
+put-segment-requires c κs =
+    let turn : AtSegment = c .before .before .before in
+    let so-far = turn .before .loop .inv in
+    let more = turn .loop-test .taken in
+    (next-room so-far more _ refl, omega (arith, own-long so-far more _ refl, next-short so-far more _ refl))
 
 add-at : tie.Need-add-at Inv-loop μ-loop
-add-at c = record { fits = omega (arith, next-short (c .before .before .before .before .before .before .before .loop .inv) (c .before .before .before .before .before .before .loop-test .taken) _ refl) }
+add-at c =
+    let turn : AtSegment = c .before .before .before .before .before .before in
+    record { fits = omega (arith, next-short (turn .before .loop .inv) (turn .loop-test .taken) _ refl) }
 
 add-at-2 : tie.Need-add-at-2 Inv-loop μ-loop
-add-at-2 c = record { fits = omega (arith, next-room (c .before .before .before .before .before .before .before .loop .inv) (c .before .before .before .before .before .before .loop-test .taken) _ refl, own-long (c .before .before .before .before .before .before .before .loop .inv) (c .before .before .before .before .before .before .loop-test .taken) _ refl) }
+add-at-2 c =
+    let turn : AtSegment = c .before .before .before .before .before .before in
+    let so-far = turn .before .loop .inv in
+    let more = turn .loop-test .taken in
+    record { fits = omega (arith, next-room so-far more _ refl, own-long so-far more _ refl) }
 
 add-k : tie.Need-add-k Inv-loop μ-loop
 add-k c = search needs
@@ -52,7 +66,9 @@ loop-less : tie.Need-loop-less Inv-loop μ-loop
 loop-less c = search needs
 
 loop-again : tie.Need-loop-again Inv-loop μ-loop
-loop-again c = packing-goes (c .before .before .before .before .before .before .before .loop .inv) (c .before .before .before .before .before .before .loop-test .taken) _ refl _ (c .before .before .put-segment .ensures)
+loop-again c =
+    let turn : AtSegment = c .before .before .before .before .before .before in
+    packing-goes (turn .before .loop .inv) (turn .loop-test .taken) _ refl _ (c .before .before .put-segment .ensures)
 
 same-length : tie.Need-same-length Inv-loop μ-loop
 same-length c = search needs

@@ -1,4 +1,5 @@
 -- `verdict` tests 10, 11 and 8 in their order.
+-- Each return has what the tests before it told.
 use mathlib.Core.Path.{sym, _∙_}
 use borrow.Author.Tests.{not-true, not-false}
 use Rattle.segments.proofs.PackLaws.{pack-damaged, pack-too-many, pack-short, pack-accepted}

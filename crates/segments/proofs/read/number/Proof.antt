@@ -1,4 +1,5 @@
 -- `number` is the number that stands with where segment k lies.
+-- By the part that `locate` found: 0, or the number of its refusal.
 use mathlib.Core.Path.{sym, ap, _∙_}
 use Rattle.segments.specs.Segments.{Lies, liesBy}
 use borrow.Author.Needs.{needs}

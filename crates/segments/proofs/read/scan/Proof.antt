@@ -14,6 +14,10 @@ Inv-segments more k count₀ end₀ start₀ length₀ count end start length = 
 abbrev μ-segments : tie.MeasureT-segments
 μ-segments more k count₀ end₀ start₀ length₀ count end start length = long more - end
 
+-- the stage of a turn: a length is there
+abbrev AtLength : Type 0
+AtLength = tie.In-segments Inv-segments μ-segments
+
 segments-holds : tie.Need-segments-holds Inv-segments μ-segments
 segments-holds c = scan-starts (c .before .args .more .now) (c .before .args .k)
 
@@ -42,19 +46,25 @@ segments-less : tie.Need-segments-less Inv-segments μ-segments
 segments-less c = omega (arith, c .before .before .before .before .segments .inv .within)
 
 segments-again : tie.Need-segments-again Inv-segments μ-segments
-segments-again c = scan-finds (c .before .before .before .before .segments .inv) _ (c .before .before .get16 .ensures) (c .before .before .before .segments-test .taken) (c .before .if1 .left) (c .if2 .taken)
+segments-again c =
+    let there : AtLength = c .before .before .before in
+    scan-finds (there .before .segments .inv) _ (c .before .before .get16 .ensures) (there .segments-test .taken) (c .before .if1 .left) (c .if2 .taken)
 
 segments-less-2 : tie.Need-segments-less-2 Inv-segments μ-segments
 segments-less-2 c = omega (arith, c .before .before .before .before .segments .inv .within)
 
 segments-again-2 : tie.Need-segments-again-2 Inv-segments μ-segments
-segments-again-2 c = scan-passes (c .before .before .before .before .segments .inv) _ (c .before .before .get16 .ensures) (c .before .before .before .segments-test .taken) (c .before .if1 .left) (c .if2 .left)
+segments-again-2 c =
+    let there : AtLength = c .before .before .before in
+    scan-passes (there .before .segments .inv) _ (c .before .before .get16 .ensures) (there .segments-test .taken) (c .before .if1 .left) (c .if2 .left)
 
 returns : tie.Need-returns Inv-segments μ-segments
 returns c = scan-ends _ (c .before .segments .inv) (cut-length (c .before .segments .inv) (c .segments-test .left))
 
 returns-2 : tie.Need-returns-2 Inv-segments μ-segments
-returns-2 c = scan-ends _ (c .before .before .before .segments .inv) (cut-segment (c .before .before .before .segments .inv) _ (c .before .get16 .ensures) (c .before .before .segments-test .taken) (c .if1 .taken))
+returns-2 c =
+    let there : AtLength = c .before .before in
+    scan-ends _ (there .before .segments .inv) (cut-segment (there .before .segments .inv) _ (c .before .get16 .ensures) (there .segments-test .taken) (c .if1 .taken))
 
 pub scan-spec : {M : Type 1} → statement M
 scan-spec =

@@ -1,4 +1,5 @@
--- `segment` hands back the bytes that `locate` found, where they lie: the first buffer, a part of the list, or nothing.
+-- `segment` hands back the bytes that `locate` found, where they lie.
+-- By the part: the first buffer, a part of the list, or nothing.
 use mathlib.Core.Path.{sym, ap, _∙_}
 use native.Mathlib.Omega.{arith}
 use borrow.Author.Needs.{needs}
