@@ -20,8 +20,11 @@ use Rattle.rules.specs.InCell.{withCounts}
 use Rattle.rules.specs.declared.Seconds.{Seconds}
 use Rattle.rules.specs.declared.Broadcasts.{Broadcasts}
 use Rattle.rules.specs.declared.Place.{Place}
-use Rattle.rules.proofs.JoinedLaws.{joined-sets, joined-less, set-padded, padded-more, padded-less, map-set, map-take, map-drop}
-use Rattle.rules.proofs.PlaceCodec.{runsOf, place-back}
+use Rattle.rules.proofs.JoinedLaws.{joined-sets, joined-less}
+use Rattle.rules.proofs.MapLaws.{map-set, map-take, map-drop}
+use Rattle.rules.proofs.PaddedLaws.{set-padded, padded-more, padded-less}
+use Rattle.rules.proofs.PlaceCodec.{place-back}
+use Rattle.rules.proofs.PlacesCodec.{runsOf}
 use Rattle.cell_read.specs.Places.{livePlaces, withPlaces, placeAt, LiveAt, FreeAt, OnePlace, without}
 use Rattle.cell_change.specs.Words.{wordBytes}
 use Rattle.cell_read.proofs.PlacesLaws.{head-long, live-few, wide-runs, withPlaces-runs, live-run, free-run, counted}
@@ -58,14 +61,14 @@ no-words = refl
 
 module _ (c : List ℕ) (k : ℕ) (at : LiveAt c k) where
   pub stored : (q : Place) (j : ℕ) (vs : List ℕ) → j + length vs ≤ placeSize current → sets (placeBytes current (placeAt c k)) j vs ≡ placeBytes current q
-      → sets c (headSize + placeSize current * k + j) vs ≡ withPlaces c (set (livePlaces c) k q)
+      → sets c ((headSize current) + placeSize current * k + j) vs ≡ withPlaces c (set (livePlaces c) k q)
   stored q j vs fits-in e =
       let ps : List Place = livePlaces c in
       let n : length (runsOf current ps) ≡ placesPerCell = length-padded placesPerCell (freeBytes current) (map (placeBytes current) ps) in
       let m : length (map (placeBytes current) ps) ≡ length ps = length-map ps (placeBytes current) in
       let live = at .live in
-      ap (λ (l : List ℕ). sets l (headSize + placeSize current * k + j) vs) (at .formed .whole ∙ withPlaces-runs c ps)
-      ∙ joined-sets (placeSize current) (wide-runs ps) (take headSize c) vs headSize k j (headSize + placeSize current * k + j) (head-long c (at .formed .size)) (omega arith) fits-in refl
+      ap (λ (l : List ℕ). sets l ((headSize current) + placeSize current * k + j) vs) (at .formed .whole ∙ withPlaces-runs c ps)
+      ∙ joined-sets (placeSize current) (wide-runs ps) (take (headSize current) c) vs (headSize current) k j ((headSize current) + placeSize current * k + j) (head-long c (at .formed .size)) (omega arith) fits-in refl
       ∙ rw (live-run c k at, e, set-padded (freeBytes current) placesPerCell k (map (placeBytes current) ps) (placeBytes current q) (omega arith), ← map-set (placeBytes current) ps k q) (sym (withPlaces-runs c (set ps k q)))
 
   ten : (p : Place) → length (placeNumbers p) ≡ length (placeFields current)
@@ -74,7 +77,7 @@ module _ (c : List ℕ) (k : ℕ) (at : LiveAt c k) where
 
   -- sent and wait, which stand side by side
   pub counts-stored : (sent : Broadcasts) (wait : Seconds)
-      → sets (sets c (headSize + placeSize current * k + 14) (toBe 2 (sent .0))) (headSize + placeSize current * k + 16) (toBe 4 (wait .0)) ≡ withPlaces c (set (livePlaces c) k (withCounts (placeAt c k) sent wait))
+      → sets (sets c ((headSize current) + placeSize current * k + 14) (toBe 2 (sent .0))) ((headSize current) + placeSize current * k + 16) (toBe 4 (wait .0)) ≡ withPlaces c (set (livePlaces c) k (withCounts (placeAt c k) sent wait))
   unfolding placeBytes offset
   counts-stored sent wait =
       let p : Place = placeAt c k in
@@ -83,12 +86,12 @@ module _ (c : List ℕ) (k : ℕ) (at : LiveAt c k) where
       let five : sets (placeBytes current p) 14 (toBe 2 (sent .0)) ≡ bytesOf (placeFields current) (set (placeNumbers p) 5 (sent .0)) = field-stored (placeFields current) (placeNumbers p) 5 (sent .0) (omega arith) (ten p) in
       let six : sets (bytesOf (placeFields current) (set (placeNumbers p) 5 (sent .0))) 16 (toBe 4 (wait .0)) ≡ bytesOf (placeFields current) (set (set (placeNumbers p) 5 (sent .0)) 6 (wait .0)) =
       field-stored (placeFields current) (set (placeNumbers p) 5 (sent .0)) 6 (wait .0) (omega arith) (rw length-set (ten p)) in
-      sets-run (toBe 2 (sent .0)) (toBe 4 (wait .0)) c (headSize + placeSize current * k + 14) (headSize + placeSize current * k + 16) (omega arith)
+      sets-run (toBe 2 (sent .0)) (toBe 4 (wait .0)) c ((headSize current) + placeSize current * k + 14) ((headSize current) + placeSize current * k + 16) (omega arith)
       ∙ stored (withCounts p sent wait) 14 (toBe 2 (sent .0) ++ toBe 4 (wait .0)) (omega arith)
       (rw (← sets-run (toBe 2 (sent .0)) (toBe 4 (wait .0)) (placeBytes current p) 14 16 (omega arith), five, six, ← counted p sent wait))
 
   -- wait alone
-  pub wait-stored : (wait : Seconds) → sets c (headSize + placeSize current * k + 16) (toBe 4 (wait .0)) ≡ withPlaces c (set (livePlaces c) k (withCounts (placeAt c k) (placeAt c k .sent) wait))
+  pub wait-stored : (wait : Seconds) → sets c ((headSize current) + placeSize current * k + 16) (toBe 4 (wait .0)) ≡ withPlaces c (set (livePlaces c) k (withCounts (placeAt c k) (placeAt c k .sent) wait))
   unfolding placeBytes offset placeNumbers withCounts
   wait-stored wait =
       let p : Place = placeAt c k in
@@ -106,7 +109,7 @@ module _ (c : List ℕ) (k : ℕ) (at : FreeAt c k) (b : List ℕ) (one : OnePla
       let e : k ≡ length (map (placeBytes current) ps) = at .first ∙ sym m in
       rw (e, map-append (placeBytes current) ps (placeOf current b ∷ []), place-back current b bytes (one .long) (one .live)) (padded-more (freeBytes current) placesPerCell (map (placeBytes current) ps) b (omega arith))
 
-  pub added : (vs : List ℕ) → vs ≡ gets b 0 (placeSize current) → sets c (headSize + placeSize current * k) vs ≡ withPlaces c (livePlaces c ++ (placeOf current b ∷ []))
+  pub added : (vs : List ℕ) → vs ≡ gets b 0 (placeSize current) → sets c ((headSize current) + placeSize current * k) vs ≡ withPlaces c (livePlaces c ++ (placeOf current b ∷ []))
   added vs e =
       let ps : List Place = livePlaces c in
       let n : length (runsOf current ps) ≡ placesPerCell = length-padded placesPerCell (freeBytes current) (map (placeBytes current) ps) in
@@ -114,8 +117,8 @@ module _ (c : List ℕ) (k : ℕ) (at : FreeAt c k) (b : List ℕ) (one : OnePla
       let all : vs ≡ b = e ∙ gets-eq (placeSize current) b 0 (omega arith) ∙ take-all (placeSize current) b (omega arith) in
       let room = at .room in
       let first = at .first in
-      ap (λ (l : List ℕ). sets l (headSize + placeSize current * k) vs) (at .formed .whole ∙ withPlaces-runs c ps)
-      ∙ rw all (joined-sets (placeSize current) (wide-runs ps) (take headSize c) b headSize k 0 (headSize + placeSize current * k) (head-long c (at .formed .size)) (omega arith) (omega arith) (omega arith)
+      ap (λ (l : List ℕ). sets l ((headSize current) + placeSize current * k) vs) (at .formed .whole ∙ withPlaces-runs c ps)
+      ∙ rw all (joined-sets (placeSize current) (wide-runs ps) (take (headSize current) c) b (headSize current) k 0 ((headSize current) + placeSize current * k) (head-long c (at .formed .size)) (omega arith) (omega arith) (omega arith)
       ∙ rw (free-run c k (omega arith) room, sets-over b (freeBytes current) (one .long), more-runs) (sym (withPlaces-runs c (ps ++ (placeOf current b ∷ [])))))
 
 -- ---- a place less
@@ -131,34 +134,34 @@ module _ (c : List ℕ) (k : ℕ) (at : LiveAt c k) where
       rw (add-one k, map-append (placeBytes current) (take k ps) (drop (suc k) ps), map-take (placeBytes current) k ps, map-drop (placeBytes current) (suc k) ps)
       (padded-less (freeBytes current) placesPerCell k (map (placeBytes current) ps) (omega arith) (omega arith))
 
-  pub dropped : take (headSize + placeSize current * k) c ++ (drop (headSize + placeSize current * k + placeSize current) c ++ freeBytes current) ≡ withPlaces c (without k (livePlaces c))
+  pub dropped : take ((headSize current) + placeSize current * k) c ++ (drop ((headSize current) + placeSize current * k + placeSize current) c ++ freeBytes current) ≡ withPlaces c (without k (livePlaces c))
   dropped =
       let ps : List Place = livePlaces c in
       let n : length (runsOf current ps) ≡ placesPerCell = length-padded placesPerCell (freeBytes current) (map (placeBytes current) ps) in
       let few = at .few in
-      ap (λ (l : List ℕ). take (headSize + placeSize current * k) l ++ (drop (headSize + placeSize current * k + placeSize current) l ++ freeBytes current)) (at .formed .whole ∙ withPlaces-runs c ps)
-      ∙ joined-less (placeSize current) (wide-runs ps) (take headSize c) (freeBytes current) headSize k (headSize + placeSize current * k) (head-long c (at .formed .size)) (omega arith) refl
+      ap (λ (l : List ℕ). take ((headSize current) + placeSize current * k) l ++ (drop ((headSize current) + placeSize current * k + placeSize current) l ++ freeBytes current)) (at .formed .whole ∙ withPlaces-runs c ps)
+      ∙ joined-less (placeSize current) (wide-runs ps) (take (headSize current) c) (freeBytes current) (headSize current) k ((headSize current) + placeSize current * k) (head-long c (at .formed .size)) (omega arith) refl
       ∙ rw less-runs (sym (withPlaces-runs c (without k ps)))
 
 -- what is behind a place moves down, a place a turn: with c as it is now, what is still to be done
 pub record Moving (goal c : List ℕ) (to : ℕ) : Type 0 where
   pub size : length c ≡ cellSize current
   pub few : to < placesPerCell
-  pub left : goal ≡ take (headSize + placeSize current * to) c ++ (drop (headSize + placeSize current * to + placeSize current) c ++ freeBytes current)
+  pub left : goal ≡ take ((headSize current) + placeSize current * to) c ++ (drop ((headSize current) + placeSize current * to + placeSize current) c ++ freeBytes current)
 
 pub move-starts : (c : List ℕ) (k : ℕ) → LiveAt c k → Moving (withPlaces c (without k (livePlaces c))) c k
 move-starts c k at = record { size = at .formed .size; few = at .few; left = sym (dropped c k at) }
 
 module _ (goal c : List ℕ) (to : ℕ) (m : Moving goal c to) (c′ : List ℕ) where
-  pub move-step : to < placesPerCell - 1 → (vs : List ℕ) → vs ≡ gets c (headSize + placeSize current * to + placeSize current) (placeSize current) → c′ ≡ sets c (headSize + placeSize current * to) vs → Moving goal c′ (to + 1)
+  pub move-step : to < placesPerCell - 1 → (vs : List ℕ) → vs ≡ gets c ((headSize current) + placeSize current * to + placeSize current) (placeSize current) → c′ ≡ sets c ((headSize current) + placeSize current * to) vs → Moving goal c′ (to + 1)
   move-step h vs ev e =
-      let at : ℕ = headSize + placeSize current * to in
+      let at : ℕ = (headSize current) + placeSize current * to in
       let size = m .size in
       let lv : length vs ≡ placeSize current = ap length ev ∙ length-gets (placeSize current) c (at + placeSize current) in
       let lt : length (take at c) ≡ at = length-take-le at c (omega arith) in
       let lh : length (take at c ++ vs) ≡ at + placeSize current = rw length-append (omega arith) in
       let es : c′ ≡ (take at c ++ vs) ++ drop (at + placeSize current) c = e ∙ rw lv at (sets-eq vs c at (omega arith)) in
-      let next : headSize + placeSize current * (to + 1) ≡ at + placeSize current = omega arith in
+      let next : (headSize current) + placeSize current * (to + 1) ≡ at + placeSize current = omega arith in
       let t : take (at + placeSize current) c′ ≡ take at c ++ vs = rw es (take-at (take at c ++ vs) (drop (at + placeSize current) c) (at + placeSize current) lh) in
       let d : drop (at + placeSize current + placeSize current) c′ ≡ drop (placeSize current) (drop (at + placeSize current) c) =
       sym (drop-drop (placeSize current) (at + placeSize current) c′) ∙ ap (drop (placeSize current)) (ap (drop (at + placeSize current)) es ∙ drop-at (take at c ++ vs) (drop (at + placeSize current) c) (at + placeSize current) lh) in
@@ -170,11 +173,11 @@ module _ (goal c : List ℕ) (to : ℕ) (m : Moving goal c to) (c′ : List ℕ)
         left = m .left ∙ ap (λ (l : List ℕ). take at c ++ (l ++ freeBytes current)) (sym w) ∙ rw (next, t, d, v) (simp append-assoc);
       }
 
-  pub move-ends : placesPerCell - 1 ≤ to → c′ ≡ sets c (headSize + placeSize current * (placesPerCell - 1)) (freeBytes current) → c′ ≡ goal
+  pub move-ends : placesPerCell - 1 ≤ to → c′ ≡ sets c ((headSize current) + placeSize current * (placesPerCell - 1)) (freeBytes current) → c′ ≡ goal
   move-ends h e =
       let size = m .size in
       let few = m .few in
-      let last : ℕ = headSize + placeSize current * (placesPerCell - 1) in
+      let last : ℕ = (headSize current) + placeSize current * (placesPerCell - 1) in
       let t : to ≡ placesPerCell - 1 = omega arith in
       let n : drop (cellSize current) c ≡ [] = drop-of-length-le c {i = cellSize current} (omega arith) in
       let q : goal ≡ take last c ++ (drop (cellSize current) c ++ freeBytes current) = rw t at (m .left) in
@@ -186,23 +189,23 @@ module _ (goal c : List ℕ) (to : ℕ) (m : Moving goal c to) (c′ : List ℕ)
 pub record Freeing (c₀ c : List ℕ) (k : ℕ) : Type 0 where
   pub size : length c ≡ cellSize current
   pub few : k ≤ placesPerCell
-  pub freed : c ≡ sets c₀ headSize (replicate (placeSize current * k) 0)
+  pub freed : c ≡ sets c₀ (headSize current) (replicate (placeSize current * k) 0)
 
 module _ (c₀ c : List ℕ) (k : ℕ) (f : Freeing c₀ c k) where
-  pub free-step : k < placesPerCell → (c′ : List ℕ) → c′ ≡ sets c (headSize + placeSize current * k) (freeBytes current) → Freeing c₀ c′ (k + 1)
+  pub free-step : k < placesPerCell → (c′ : List ℕ) → c′ ≡ sets c ((headSize current) + placeSize current * k) (freeBytes current) → Freeing c₀ c′ (k + 1)
   free-step h c′ e =
       let zeros : List ℕ = replicate (placeSize current * k) 0 in
       let n : length (replicate {A = ℕ} (placeSize current * k) 0) ≡ placeSize current * k = length-replicate (placeSize current * k) 0 in
       let next : placeSize current * (k + 1) ≡ placeSize current * k + placeSize current = omega arith in
       let more : zeros ++ freeBytes current ≡ replicate (placeSize current * (k + 1)) 0 = rw next (replicate-append-replicate (placeSize current * k) (placeSize current) 0) in
       record {
-        size = ap length e ∙ length-sets c (headSize + placeSize current * k) (freeBytes current) ∙ f .size;
+        size = ap length e ∙ length-sets c ((headSize current) + placeSize current * k) (freeBytes current) ∙ f .size;
         few = omega arith;
         freed =
             e
-            ∙ ap (λ (l : List ℕ). sets l (headSize + placeSize current * k) (freeBytes current)) (f .freed)
-            ∙ sets-run zeros (freeBytes current) c₀ headSize (headSize + placeSize current * k) (omega arith)
-            ∙ ap (sets c₀ headSize) more;
+            ∙ ap (λ (l : List ℕ). sets l ((headSize current) + placeSize current * k) (freeBytes current)) (f .freed)
+            ∙ sets-run zeros (freeBytes current) c₀ (headSize current) ((headSize current) + placeSize current * k) (omega arith)
+            ∙ ap (sets c₀ (headSize current)) more;
       }
 
   pub free-ends : placesPerCell ≤ k → length c₀ ≡ cellSize current → c ≡ withPlaces c₀ []
@@ -212,5 +215,5 @@ module _ (c₀ c : List ℕ) (k : ℕ) (f : Freeing c₀ c k) where
       let e : k ≡ placesPerCell = omega arith in
       let n : drop (cellSize current) c₀ ≡ [] = drop-of-length-le c₀ {i = cellSize current} (omega arith) in
       let none : List ℕ = replicate (placeSize current * placesPerCell) 0 in
-      let all : c ≡ sets c₀ headSize none = rw e at (f .freed) in
-      all ∙ sets-eq none c₀ headSize (omega arith) ∙ rw n (append-nil (take headSize c₀ ++ none))
+      let all : c ≡ sets c₀ (headSize current) none = rw e at (f .freed) in
+      all ∙ sets-eq none c₀ (headSize current) (omega arith) ∙ rw n (append-nil (take (headSize current) c₀ ++ none))

@@ -97,7 +97,7 @@ pub fn drop_place(cell: &mut [u8], k: usize)
 // The bytes of a free place.
 fn clear(cell: &mut [u8], k: usize)
     requires { ⌜ (length (now cell) ≡ cellSize current) × (k < placesPerCell) ⌝ }
-    ensures { λ _. ⌜ now (cell .exit) ≡ sets (now (cell .entry)) (headSize + placeSize current * k) (freeBytes current) ⌝ }
+    ensures { λ _. ⌜ now (cell .exit) ≡ sets (now (cell .entry)) ((headSize current) + placeSize current * k) (freeBytes current) ⌝ }
 {
     let none = Words {
         first: 0,

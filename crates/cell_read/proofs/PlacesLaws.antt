@@ -19,36 +19,39 @@ use Rattle.rules.specs.InCell.{withCounts}
 use Rattle.rules.specs.declared.Seconds.{Seconds}
 use Rattle.rules.specs.declared.Broadcasts.{Broadcasts}
 use Rattle.rules.specs.declared.Place.{Place}
-use Rattle.rules.proofs.AllLaws.{All, none, more, all-of, all-map, all-padded}
-use Rattle.rules.proofs.JoinedLaws.{all-at, joined, Wide, joined-gets, getD-padded, getD-spare, getD-map}
+use Rattle.rules.proofs.AllLaws.{All, none, more, all-of, all-map, all-padded, all-at}
+use Rattle.rules.proofs.JoinedLaws.{joined, Wide, joined-gets}
+use Rattle.rules.proofs.MapLaws.{getD-map}
+use Rattle.rules.proofs.PaddedLaws.{getD-padded, getD-spare}
 use Rattle.rules.proofs.FitLaws.{Fit-fits, fits-Fit}
 use Rattle.rules.proofs.HeadCodec.{head-back}
-use Rattle.rules.proofs.PlaceCodec.{FitPlace, PlaceRun, runsOf, length-placeBytes, length-placesBytes, runs-of-places, places-padded, places-back, legal-places}
+use Rattle.rules.proofs.PlaceCodec.{FitPlace, length-placeBytes}
+use Rattle.rules.proofs.PlacesCodec.{PlaceRun, runsOf, length-placesBytes, runs-of-places, places-padded, places-back, legal-places}
 use Rattle.rules.proofs.CellCodec.{legal-cell, cell-runs}
 use Rattle.cell_read.specs.Places.{livePlaces, withPlaces, Formed, noPlace, placeAt, LiveAt}
 
 -- ---- the parts of a cell
 
-pub head-long : (c : List ℕ) → length c ≡ cellSize current → length (take headSize c) ≡ headSize
-head-long c long = length-take-le headSize c (omega arith)
+pub head-long : (c : List ℕ) → length c ≡ cellSize current → length (take (headSize current) c) ≡ (headSize current)
+head-long c long = length-take-le (headSize current) c (omega arith)
 
 module _ (c : List ℕ) (long : length c ≡ cellSize current) (ps : List Place) where
   pub length-withPlaces : length (withPlaces c ps) ≡ cellSize current
   unfolding withPlaces
   length-withPlaces = rw (length-append, head-long c long, length-placesBytes current ps)
 
-  pub head-withPlaces : take headSize (withPlaces c ps) ≡ take headSize c
+  pub head-withPlaces : take (headSize current) (withPlaces c ps) ≡ take (headSize current) c
   unfolding withPlaces
-  head-withPlaces = take-at (take headSize c) (placesBytes current ps) headSize (head-long c long)
+  head-withPlaces = take-at (take (headSize current) c) (placesBytes current ps) (headSize current) (head-long c long)
 
-  pub behind-withPlaces : drop headSize (withPlaces c ps) ≡ placesBytes current ps
+  pub behind-withPlaces : drop (headSize current) (withPlaces c ps) ≡ placesBytes current ps
   unfolding withPlaces
-  behind-withPlaces = drop-at (take headSize c) (placesBytes current ps) headSize (head-long c long)
+  behind-withPlaces = drop-at (take (headSize current) c) (placesBytes current ps) (headSize current) (head-long c long)
 
   -- places over places
   pub withPlaces-again : (qs : List Place) → withPlaces (withPlaces c ps) qs ≡ withPlaces c qs
   unfolding withPlaces
-  withPlaces-again qs = ap (λ (l : List ℕ). l ++ placesBytes current qs) (take-at (take headSize c) (placesBytes current ps) headSize (head-long c long))
+  withPlaces-again qs = ap (λ (l : List ℕ). l ++ placesBytes current qs) (take-at (take (headSize current) c) (placesBytes current ps) (headSize current) (head-long c long))
 
   module _ (fit : All (FitPlace current) ps) (few : length ps ≤ placesPerCell) where
     pub withPlaces-live : livePlaces (withPlaces c ps) ≡ ps
@@ -62,10 +65,10 @@ module _ (c : List ℕ) (long : length c ≡ cellSize current) (ps : List Place)
         }
 
 -- the cell that its head and these places make
-pub withPlaces-cell : (c : List ℕ) → Bytes c → length c ≡ cellSize current → legalHead (take headSize c) ≡ true → (ps : List Place)
-    → withPlaces c ps ≡ cellBytes current (record { head = headOf (take headSize c); places = ps })
+pub withPlaces-cell : (c : List ℕ) → Bytes c → length c ≡ cellSize current → legalHead current (take (headSize current) c) ≡ true → (ps : List Place)
+    → withPlaces c ps ≡ cellBytes current (record { head = headOf current (take (headSize current) c); places = ps })
 unfolding withPlaces cellBytes
-withPlaces-cell c bytes long legal ps = rw (head-back (take headSize c) (bytes-take headSize c bytes) (head-long c long) legal)
+withPlaces-cell c bytes long legal ps = rw (head-back current (take (headSize current) c) (bytes-take (headSize current) c bytes) (head-long c long) legal)
 
 -- ---- the live places
 
@@ -109,11 +112,11 @@ live-fit c bytes long = fit-places (cell-runs current c bytes long)
 pub formed-first : (c : List ℕ) → Bytes c → length c ≡ cellSize current → liveFirst current (placeRuns current c) ≡ true → Formed c
 unfolding withPlaces
 formed-first c bytes long first =
-    let behind : length (drop headSize c) ≡ placeSize current * placesPerCell = rw (length-drop, long) in
-    let back = places-back current (placeRuns current c) (cell-runs current c bytes long) (length-pieces (placeSize current) placesPerCell (drop headSize c)) first in
+    let behind : length (drop (headSize current) c) ≡ placeSize current * placesPerCell = rw (length-drop, long) in
+    let back = places-back current (placeRuns current c) (cell-runs current c bytes long) (length-pieces (placeSize current) placesPerCell (drop (headSize current) c)) first in
     record {
       size = long;
-      whole = sym (rw (back, pieces-flat (placeSize current) placesPerCell (drop headSize c) behind) (take-append-drop headSize c));
+      whole = sym (rw (back, pieces-flat (placeSize current) placesPerCell (drop (headSize current) c) behind) (take-append-drop (headSize current) c));
     }
 
 pub formed-legal : (c : List ℕ) → Bytes c → length c ≡ cellSize current → legalCell current c ≡ true → Formed c
@@ -145,7 +148,7 @@ wide-runs ps =
     all-padded placesPerCell (freeBytes current) refl (all-map (λ b. length b ≡ placeSize current) (placeBytes current) (all-of (length-placeBytes current) ps))
 
 -- behind the head stand the runs
-pub withPlaces-runs : (c : List ℕ) (ps : List Place) → withPlaces c ps ≡ take headSize c ++ joined (runsOf current ps)
+pub withPlaces-runs : (c : List ℕ) (ps : List Place) → withPlaces c ps ≡ take (headSize current) c ++ joined (runsOf current ps)
 unfolding withPlaces placesBytes
 withPlaces-runs c ps = refl
 
@@ -164,15 +167,15 @@ free-run c k h room =
 
 -- read in place k, from its byte j on
 run-gets : (c : List ℕ) → Formed c → (k j m : ℕ) → k < placesPerCell → j + m ≤ placeSize current
-    → gets c (headSize + placeSize current * k + j) m ≡ gets (getD (runsOf current (livePlaces c)) k []) j m
+    → gets c ((headSize current) + placeSize current * k + j) m ≡ gets (getD (runsOf current (livePlaces c)) k []) j m
 run-gets c formed k j m room fits-in =
     let n : length (runsOf current (livePlaces c)) ≡ placesPerCell = length-padded placesPerCell (freeBytes current) (map (placeBytes current) (livePlaces c)) in
-    ap (λ (l : List ℕ). gets l (headSize + placeSize current * k + j) m) (formed .whole ∙ withPlaces-runs c (livePlaces c))
-    ∙ joined-gets (placeSize current) (wide-runs (livePlaces c)) (take headSize c) headSize k j m (headSize + placeSize current * k + j) (head-long c (formed .size)) (omega arith) fits-in refl
+    ap (λ (l : List ℕ). gets l ((headSize current) + placeSize current * k + j) m) (formed .whole ∙ withPlaces-runs c (livePlaces c))
+    ∙ joined-gets (placeSize current) (wide-runs (livePlaces c)) (take (headSize current) c) (headSize current) k j m ((headSize current) + placeSize current * k + j) (head-long c (formed .size)) (omega arith) fits-in refl
 
-pub live-gets : (c : List ℕ) (k : ℕ) → LiveAt c k → (j m : ℕ) → j + m ≤ placeSize current → gets c (headSize + placeSize current * k + j) m ≡ gets (placeBytes current (placeAt c k)) j m
+pub live-gets : (c : List ℕ) (k : ℕ) → LiveAt c k → (j m : ℕ) → j + m ≤ placeSize current → gets c ((headSize current) + placeSize current * k + j) m ≡ gets (placeBytes current (placeAt c k)) j m
 live-gets c k at j m fits-in = run-gets c (at .formed) k j m (at .few) fits-in ∙ ap (λ (l : List ℕ). gets l j m) (live-run c k at)
 
 pub free-gets : (c : List ℕ) → Formed c → (k : ℕ) → length (livePlaces c) ≤ k → k < placesPerCell → (j m : ℕ) → j + m ≤ placeSize current
-    → gets c (headSize + placeSize current * k + j) m ≡ gets (freeBytes current) j m
+    → gets c ((headSize current) + placeSize current * k + j) m ≡ gets (freeBytes current) j m
 free-gets c formed k h room j m fits-in = run-gets c formed k j m room fits-in ∙ ap (λ (l : List ℕ). gets l j m) (free-run c k h room)

@@ -19,7 +19,7 @@ use Rattle.rules.specs.Layout.{current, headFields, placeFields, headSize, plac
 use Rattle.rules.specs.Table.{areasUsed, headOf, allAreas, placeNumbers, placeBytes}
 use Rattle.rules.specs.declared.Place.{Place}
 use Rattle.rules.proofs.FitLaws.{fits-Fit, numbers-written}
-use Rattle.rules.proofs.ListsLaws.{by-test}
+use Rattle.rules.proofs.TestLaws.{by-test}
 use Rattle.rules.proofs.PlaceCodec.{length-placeBytes}
 use Rattle.cell_read.specs.Places.{livePlaces, Formed, placeAt, LiveAt, textOf, areasIn, HeadAreas}
 use Rattle.cell_read.specs.declared.Areas.{Areas}
@@ -40,7 +40,7 @@ module _ (l : List ℕ) (i j : ℕ) (bytes : Bytes l) (e : j ≡ i + 2) where
 -- ---- the fields of a live place
 
 module _ (c : List ℕ) (bytes : Bytes c) (k : ℕ) (at : LiveAt c k) where
-  field-read : (f : ℕ) → be (gets c (headSize + placeSize current * k + offset (placeFields current) f) (getD (placeFields current) f 0)) ≡ getD (placeNumbers (placeAt c k)) f 0
+  field-read : (f : ℕ) → be (gets c ((headSize current) + placeSize current * k + offset (placeFields current) f) (getD (placeFields current) f 0)) ≡ getD (placeNumbers (placeAt c k)) f 0
   unfolding size placeBytes fieldOf
   field-read f =
       let p : Place = placeAt c k in
@@ -51,60 +51,60 @@ module _ (c : List ℕ) (bytes : Bytes c) (k : ℕ) (at : LiveAt c k) where
       ∙ sym (field-at (placeFields current) f (placeBytes current p) (omega arith))
       ∙ ap (λ (vs : List ℕ). getD vs f 0) w
 
-  identifier-read : be (gets c (headSize + placeSize current * k) 2) ≡ placeAt c k .identifier
+  identifier-read : be (gets c ((headSize current) + placeSize current * k) 2) ≡ placeAt c k .identifier
   unfolding offset placeNumbers
   identifier-read = rw add-zero at (field-read 0)
 
-  serial-read : be (gets c (headSize + placeSize current * k + 2) 2) ≡ placeAt c k .serial
+  serial-read : be (gets c ((headSize current) + placeSize current * k + 2) 2) ≡ placeAt c k .serial
   unfolding offset placeNumbers
   serial-read = field-read 1
 
-  pub content-read : be (gets c (headSize + placeSize current * k + 4) 4) ≡ placeAt c k .content
+  pub content-read : be (gets c ((headSize current) + placeSize current * k + 4) 4) ≡ placeAt c k .content
   unfolding offset placeNumbers
   content-read = field-read 2
 
-  pub period-read : be (gets c (headSize + placeSize current * k + 8) 4) ≡ placeAt c k .period .0
+  pub period-read : be (gets c ((headSize current) + placeSize current * k + 8) 4) ≡ placeAt c k .period .0
   unfolding offset placeNumbers
   period-read = field-read 3
 
-  pub requested-read : be (gets c (headSize + placeSize current * k + 12) 2) ≡ placeAt c k .requested .0
+  pub requested-read : be (gets c ((headSize current) + placeSize current * k + 12) 2) ≡ placeAt c k .requested .0
   unfolding offset placeNumbers
   requested-read = field-read 4
 
-  pub sent-read : be (gets c (headSize + placeSize current * k + 14) 2) ≡ placeAt c k .sent .0
+  pub sent-read : be (gets c ((headSize current) + placeSize current * k + 14) 2) ≡ placeAt c k .sent .0
   unfolding offset placeNumbers
   sent-read = field-read 5
 
-  pub wait-read : be (gets c (headSize + placeSize current * k + 16) 4) ≡ placeAt c k .wait .0
+  pub wait-read : be (gets c ((headSize current) + placeSize current * k + 16) 4) ≡ placeAt c k .wait .0
   unfolding offset placeNumbers
   wait-read = field-read 6
 
-  pub sib-read : be (gets c (headSize + placeSize current * k + 20) 1) ≡ placeAt c k .sib
+  pub sib-read : be (gets c ((headSize current) + placeSize current * k + 20) 1) ≡ placeAt c k .sib
   unfolding offset placeNumbers
   sib-read = field-read 7
 
-  mark-read : be (gets c (headSize + placeSize current * k + 21) 1) ≡ 1
+  mark-read : be (gets c ((headSize current) + placeSize current * k + 21) 1) ≡ 1
   unfolding offset placeNumbers
   mark-read = field-read 8
 
-  pub text-read : be (gets c (headSize + placeSize current * k) 4) ≡ textOf (placeAt c k)
+  pub text-read : be (gets c ((headSize current) + placeSize current * k) 4) ≡ textOf (placeAt c k)
   unfolding textOf
-  text-read = sym (be-run 2 2 c (headSize + placeSize current * k) (headSize + placeSize current * k + 2) refl) ∙ rw (identifier-read, serial-read)
+  text-read = sym (be-run 2 2 c ((headSize current) + placeSize current * k) ((headSize current) + placeSize current * k + 2) refl) ∙ rw (identifier-read, serial-read)
 
   pub identifier-half : textOf (placeAt c k) / 65536 ≡ placeAt c k .identifier
-  identifier-half = rw (← text-read) (upper-half c (headSize + placeSize current * k) (headSize + placeSize current * k + 2) bytes refl ∙ identifier-read)
+  identifier-half = rw (← text-read) (upper-half c ((headSize current) + placeSize current * k) ((headSize current) + placeSize current * k + 2) bytes refl ∙ identifier-read)
 
   pub serial-half : textOf (placeAt c k) % 65536 ≡ placeAt c k .serial
-  serial-half = rw (← text-read) (lower-half c (headSize + placeSize current * k) (headSize + placeSize current * k + 2) bytes refl ∙ serial-read)
+  serial-half = rw (← text-read) (lower-half c ((headSize current) + placeSize current * k) ((headSize current) + placeSize current * k + 2) bytes refl ∙ serial-read)
 
 -- ---- live or free
 
 module _ (c : List ℕ) (bytes : Bytes c) (formed : Formed c) (k : ℕ) (room : k < placesPerCell) where
-  no-mark : length (livePlaces c) ≤ k → be (gets c (headSize + placeSize current * k + 21) 1) ≡ 0
+  no-mark : length (livePlaces c) ≤ k → be (gets c ((headSize current) + placeSize current * k + 21) 1) ≡ 0
   unfolding be gets
   no-mark h = ap be (free-gets c formed k h room 21 1 (omega arith))
 
-  pub live-mark : not (eqb (be (gets c (headSize + placeSize current * k + 21) 1)) 0) ≡ ltb k (length (livePlaces c))
+  pub live-mark : not (eqb (be (gets c ((headSize current) + placeSize current * k + 21) 1)) 0) ≡ ltb k (length (livePlaces c))
   live-mark =
       by-test (ltb k (length (livePlaces c)))
       (λ t. rw (t, mark-read c bytes k (live-at c formed k (ltb-true k (length (livePlaces c)) t))))
@@ -113,31 +113,31 @@ module _ (c : List ℕ) (bytes : Bytes c) (formed : Formed c) (k : ℕ) (room : 
 -- ---- the head
 
 module _ (c : List ℕ) (long : length c ≡ cellSize current) where
-  head-read : (f : ℕ) → fieldOf headFields f (take headSize c) ≡ be (gets c (offset headFields f) (getD headFields f 0))
+  head-read : (f : ℕ) → fieldOf (headFields current) f (take (headSize current) c) ≡ be (gets c (offset (headFields current) f) (getD (headFields current) f 0))
   unfolding size fieldOf
   head-read f =
-      let within : offset headFields f + getD headFields f 0 ≤ headSize = field-within headFields f in
-      rw (numbers-take headFields c headSize (omega arith)) (field-at headFields f c (omega arith))
+      let within : offset (headFields current) f + getD (headFields current) f 0 ≤ (headSize current) = field-within (headFields current) f in
+      rw (numbers-take (headFields current) c (headSize current) (omega arith)) (field-at (headFields current) f c (omega arith))
 
-  pub identity-read : headOf (take headSize c) .identity ≡ be (gets c 0 8)
+  pub identity-read : headOf current (take (headSize current) c) .identity ≡ be (gets c 0 8)
   unfolding headOf fieldOf offset
   identity-read = head-read 0
 
-  pub code-read : headOf (take headSize c) .code ≡ be (gets c 8 3)
+  pub code-read : headOf current (take (headSize current) c) .code ≡ be (gets c 8 3)
   unfolding headOf fieldOf offset
   code-read = head-read 1
 
   four : (b : List ℕ)
-      → allAreas b ≡ getD (numbers headFields b) 3 0 ∷ getD (numbers headFields b) 4 0 ∷ getD (numbers headFields b) 5 0 ∷ getD (numbers headFields b) 6 0 ∷ []
+      → allAreas current b ≡ getD (numbers (headFields current) b) 3 0 ∷ getD (numbers (headFields current) b) 4 0 ∷ getD (numbers (headFields current) b) 5 0 ∷ getD (numbers (headFields current) b) 6 0 ∷ []
   unfolding numbers
   four b = refl
 
   pub areas-read : (a : Areas) → a .used ≡ be (gets c 11 1) → a .first ≡ be (gets c 12 3) → a .second ≡ be (gets c 15 3) → a .third ≡ be (gets c 18 3) → a .fourth ≡ be (gets c 21 3)
-      → HeadAreas (take headSize c) a
+      → HeadAreas (take (headSize current) c) a
   unfolding headOf areasIn fieldOf offset
   areas-read a u e₁ e₂ e₃ e₄ =
-      let b : List ℕ = take headSize c in
-      let used : a .used ≡ areasUsed b = u ∙ sym (head-read 2) in
-      let all : a .first ∷ a .second ∷ a .third ∷ a .fourth ∷ [] ≡ allAreas b =
+      let b : List ℕ = take (headSize current) c in
+      let used : a .used ≡ areasUsed current b = u ∙ sym (head-read 2) in
+      let all : a .first ∷ a .second ∷ a .third ∷ a .fourth ∷ [] ≡ allAreas current b =
       rw (four b, head-read 3, head-read 4, head-read 5, head-read 6, e₁, e₂, e₃, e₄) in
       record { used = used; four = all; in-use = rw (used, all) }

@@ -12,7 +12,7 @@ use lib.ListN.{length, getD, drop, drop-of-length-le}
 use lib.Seq.{drop-cons}
 use Rattle.rules.specs.Layout.{placesPerCell}
 use Rattle.rules.specs.declared.Place.{Place}
-use Rattle.rules.proofs.ListsLaws.{cond-either, by-test}
+use Rattle.rules.proofs.TestLaws.{cond-either, by-test}
 use Rattle.cell_read.specs.Places.{livePlaces, noPlace, placeAt, textOf, indexOf}
 use Rattle.cell_read.proofs.PlacesLaws.{live-few}
 

@@ -15,7 +15,7 @@ livePlaces c = placesOf current (placeRuns current c)
 
 -- the cell with other places; its head stays
 unfoldable pub withPlaces : List ℕ → List Place → List ℕ
-withPlaces c ps = take headSize c ++ placesBytes current ps
+withPlaces c ps = take (headSize current) c ++ placesBytes current ps
 
 -- a cell whose live places come first and whose free ones are zero: less than legal
 pub record Formed (c : List ℕ) : Type 0 where
@@ -81,7 +81,7 @@ areasIn a = take (a .used) (a .first ∷ a .second ∷ a .third ∷ a .fourth �
 
 -- what the bytes of a head say of them
 pub record HeadAreas (b : List ℕ) (a : Areas) : Type 0 where
-  pub used : a .used ≡ areasUsed b
-  pub four : a .first ∷ a .second ∷ a .third ∷ a .fourth ∷ [] ≡ allAreas b
+  pub used : a .used ≡ areasUsed current b
+  pub four : a .first ∷ a .second ∷ a .third ∷ a .fourth ∷ [] ≡ allAreas current b
   -- which follows
-  pub in-use : areasIn a ≡ headOf b .areas
+  pub in-use : areasIn a ≡ headOf current b .areas

@@ -169,7 +169,7 @@ pub struct Areas {
 
 pub fn identity(cell: &[u8]) -> CellIdentity
     requires { ⌜ length (now cell) ≡ cellSize current ⌝ }
-    ensures { λ r. ⌜ r ≡ record { 0 = headOf (take headSize (now (cell .entry))) .identity } ⌝ }
+    ensures { λ r. ⌜ r ≡ record { 0 = headOf current (take (headSize current) (now (cell .entry))) .identity } ⌝ }
 {
     CellIdentity(get64(cell, 0))
 }
@@ -177,7 +177,7 @@ pub fn identity(cell: &[u8]) -> CellIdentity
 // The item that names the cell's tracking area.
 pub fn tracking(cell: &[u8]) -> u64
     requires { ⌜ length (now cell) ≡ cellSize current ⌝ }
-    ensures { λ r. ⌜ r ≡ trackingItem (headOf (take headSize (now (cell .entry))) .identity) (headOf (take headSize (now (cell .entry))) .code) ⌝ }
+    ensures { λ r. ⌜ r ≡ trackingItem (headOf current (take (headSize current) (now (cell .entry))) .identity) (headOf current (take (headSize current) (now (cell .entry))) .code) ⌝ }
 {
     let identity = identity(cell);
     identity.tracking_item(get24(cell, CODE_AT))
@@ -185,7 +185,7 @@ pub fn tracking(cell: &[u8]) -> u64
 
 pub fn areas_of(cell: &[u8]) -> Areas
     requires { ⌜ length (now cell) ≡ cellSize current ⌝ }
-    ensures { λ r. ⌜ HeadAreas (take headSize (now (cell .entry))) r ⌝ }
+    ensures { λ r. ⌜ HeadAreas (take (headSize current) (now (cell .entry))) r ⌝ }
 {
     Areas {
         used: get8(cell, AREAS_USED_AT),

@@ -6,7 +6,7 @@ use Prim.Native.Nat.{ℕ}
 use native.Mathlib.Omega.{arith}
 use lib.Dec.{leb}
 use lib.ListN.{length}
-use Rattle.rules.specs.Layout.{version1, current}
+use Rattle.rules.specs.Layout.{current}
 use Rattle.rules.specs.Record.{requestOf, itemsOf}
 use Rattle.rules.specs.Refusals.{verdictNumber, fewItems, legalHeads}
 use Rattle.rules.specs.Applied.{Filled, ReadOutcome, Outcome, built, conversion, written, readOf, itemAt, applied}
@@ -20,7 +20,7 @@ use Rattle.pws.specs.Surface.{filled}
 use Rattle.pws.specs.declared.PwsDone.{PwsDone}
 use Rattle.demands.specs.Demand1.{Stage, Filling, Demand1}
 use Rattle.demands.proofs.ContractsHold.{contracts-hold}
-use Rattle.demands.proofs.NumberLaws.{fill-number, reading-number, outcome-number, lying-number, within-table, within-asked, within-record, within-room, within-segment, within-last, chain, EachWithin, numbered}
+use Rattle.demands.proofs.NumberLaws.{fill-number, reading-number, outcome-number, lying-number, within-table, within-older, within-asked, within-record, within-room, within-segment, within-last, chain, EachWithin, numbered}
 
 -- ---- field by field
 
@@ -86,9 +86,9 @@ demand-1 =
       of-build = λ heads table d table′ p.
           filling _ (within-last (legalHeads heads) BadHeads (omega arith, omega arith), (within-room _ (length table), tt)) _ (build-chain heads (length table)) _ table (fill-number _ _ table) (built-refused heads table) d table′ p;
       of-convert = λ old table d table′ p.
-          filling _ (within-table version1 old, (within-room _ (length table), tt)) _ (convert-chain old (length table)) _ table (fill-number _ _ table) (conversion-refused old table) d table′ p;
+          filling _ (within-older old, (within-room _ (length table), tt)) _ (convert-chain old (length table)) _ table (fill-number _ _ table) (conversion-refused old table) d table′ p;
       apply-numbered = λ table req answer d table′ answer′ p.
-          numbered _ (within-table current table, (within-record req, (within-room _ (length answer), tt))) _ (apply-chain current table req (length answer)) (d .number) (number-left p ∙ outcome-number current _ (requestOf req) (itemsOf req) table answer);
+          numbered _ (within-table table, (within-record req, (within-room _ (length answer), tt))) _ (apply-chain current table req (length answer)) (d .number) (number-left p ∙ outcome-number current _ (requestOf req) (itemsOf req) table answer);
       apply-refused = λ table req answer d table′ answer′ p h.
           let x = applied-refused current table req answer (λ z. h (number-left p ∙ z)) in
           (length-left p ∙ x .0, table-left p ∙ x .1, answer-left p ∙ x .2);

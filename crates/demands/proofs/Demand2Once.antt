@@ -8,11 +8,10 @@ use lib.Seq.{ext-getD}
 use Rattle.octets.proofs.PiecesLaws.{length-pieces}
 use Rattle.rules.specs.Layout.{current, headerSize, cellSize}
 use Rattle.rules.specs.Table.{cellOf, cellCount, cellRuns}
-use Rattle.rules.specs.Record.{requestOf}
-use Rattle.rules.specs.Answer.{rowBytes, answerHead}
-use Rattle.rules.specs.Applied.{Outcome}
-use Rattle.rules.proofs.ListsLaws.{by-test}
-use Rattle.demands.specs.Demand2.{cellAt, reached, rowsOf, TableChanged, Answered, AcceptedCall}
+use Rattle.rules.specs.Answer.{answerBytes}
+use Rattle.rules.specs.Applied.{Outcome, answered}
+use Rattle.rules.proofs.TestLaws.{by-test}
+use Rattle.demands.specs.Demand2.{cellAt, reached, TableChanged, Answered, AcceptedCall}
 
 module _ (t r a : List ℕ) (o o′ : Outcome) where
   module _ (x : TableChanged t r o) (y : TableChanged t r o′) where
@@ -44,7 +43,7 @@ module _ (t r a : List ℕ) (o o′ : Outcome) where
     same-answer : o .answer ≡ o′ .answer
     same-answer =
         x .answer-whole
-        ∙ ap (λ n. answerHead (requestOf r) (length (rowsOf t r)) ++ flatMap rowBytes (rowsOf t r) ++ drop n a) same-length
+        ∙ ap (λ n. answerBytes current (answered current t r) ++ drop n a) same-length
         ∙ sym (y .answer-whole)
 
   pub served-once : o .number ≡ o′ .number → AcceptedCall t r a o → AcceptedCall t r a o′ → o ≡ o′

@@ -17,7 +17,8 @@ use Rattle.rules.specs.Reach.{names, reaches}
 use Rattle.rules.specs.InCell.{startsNothing, newPlace, start, cancel, inCell}
 use Rattle.rules.specs.Answer.{rowBytes, answerHead, answerBytes, roomFor}
 use Rattle.rules.specs.Refusals.{tableVerdict, requestVerdict, recordVerdict, applyVerdict}
-use Rattle.rules.specs.Applied.{Outcome, stepCell, cellRows, outcome, applied}
+use Rattle.rules.specs.Applied.{Outcome, stepCell, outcome, applied}
+use Rattle.rules.specs.Reply.{cellRows, replyOf}
 use Rattle.rules.specs.declared.Verdict.the-variants.{Accepted}
 use Rattle.rules.specs.ByHand.{free, answers, says, blank, leaves, one}
 use Rattle.rules.specs.Samples.{two, twice, flood}
@@ -45,14 +46,14 @@ record Computed : Type 0 where
   stopped-once : Computes (one (flood 1 1)) stopping (leaves (one (free 4)) (answers 2 4370 16 1 ++ says 16 1 0))
   stopped-twice : Computes twice stopping (leaves (one (free 4)) (answers 2 4370 16 1 ++ says 16 2 0))
   -- a start needs room for one row of a cell
-  one-row : roomFor (requestOf starting .kind) 1 ≡ 26
+  one-row : roomFor current (requestOf starting .kind) 1 ≡ 26
   -- the cancel names one text
   stops-one : (requestOf stopping .kind ≡ cancelOrKill) × (cancelAll (requestOf stopping) ≡ false)
   -- the text sent once and twice: the same but for that
   same-unsent : map withoutSent (cellsOf current (one (flood 1 1))) ≡ map withoutSent (cellsOf current twice)
 
 computed : Computed
-unfolding flatMap gets pieces be toBe size numbers bytesOf padded every any those zeros oneOf above ascending fieldOf headOf headNumbers headBytes legalHead placeOf placeNumbers placeBytes isFree isLive liveFirst placesOf legalPlace isText running different legalPlaces cellOf placesBytes cellBytes legalCell cellsOf headerBytes tableBytes tableMarked legalTable requestOf itemsOf recordMarked allowed kindAllows areaFits withinLimits cancelsNothing names reaches startsNothing newPlace start cancel inCell rowBytes answerHead answerBytes roomFor tableVerdict requestVerdict recordVerdict applyVerdict stepCell cellRows outcome applied
+unfolding flatMap gets pieces be toBe size numbers bytesOf padded every any those zeros oneOf above ascending fieldOf headOf headNumbers headBytes legalHead placeOf placeNumbers placeBytes isFree isLive liveFirst placesOf legalPlace isText running different legalPlaces cellOf placesBytes cellBytes legalCell cellsOf headerBytes tableBytes tableMarked legalTable requestOf itemsOf recordMarked allowed kindAllows areaFits withinLimits cancelsNothing names reaches startsNothing newPlace start cancel inCell rowBytes answerHead answerBytes roomFor tableVerdict requestVerdict recordVerdict applyVerdict stepCell cellRows replyOf outcome applied
 computed =
     record {
       started = record { are-bytes = (bytes-tested (one (free 4)) refl, bytes-tested starting refl); accepted = refl; gives = refl };
@@ -159,7 +160,7 @@ demand-2-refuted =
       not-unchanging = λ m. not-unchanged unchanging m (λ t r a. refl);
       -- the first byte of the second cell's first place stays
       not-firstCell = λ m.
-          let z : _≡_ {A = ℕ} 0 17 = ap (λ (o : Outcome). getD (o .table) (headerSize + cellSize current + headSize) 0) (rw (computed .started-two .gives) at (gives firstCell m (computed .started-two))) in
+          let z : _≡_ {A = ℕ} 0 17 = ap (λ (o : Outcome). getD (o .table) (headerSize + cellSize current + (headSize current)) 0) (rw (computed .started-two .gives) at (gives firstCell m (computed .started-two))) in
           omega arith;
       not-inventing = λ m.
           let z : _≡_ {A = ℕ} 0 2 = ap (λ (o : Outcome). getD (o .answer) 21 0) (rw (computed .stopped-twice .gives) at (gives inventing m (computed .stopped-twice))) in

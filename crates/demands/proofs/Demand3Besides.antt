@@ -14,9 +14,9 @@ use Rattle.rules.specs.declared.Verdict.{Verdict}
 use Rattle.rules.specs.declared.Verdict.the-variants.{Accepted, Refused}
 use Rattle.rules.proofs.KindAreaLaws.{second-area}
 use Rattle.rules.proofs.VerdictLaws.{request-accepted}
-use Rattle.rules.proofs.RecordTrips.{record-accepted}
+use Rattle.rules.proofs.AcceptedRecordLaws.{record-accepted}
 use Rattle.rules.proofs.OutcomeLaws.{applied-accepted}
-use Rattle.rules.proofs.AppliedLaws.{call-accepted}
+use Rattle.rules.proofs.AcceptedCallLaws.{call-accepted}
 use Rattle.demands.specs.Demand3.{Call, outcomeOn, run, AcceptedAnywhere, CellsStay, SecondReachesAll}
 use Rattle.demands.proofs.Runs.{cellBefore, verdict-stays, run-goes, cells-after}
 

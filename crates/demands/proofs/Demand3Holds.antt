@@ -14,7 +14,8 @@ use Rattle.rules.specs.Record.{requestOf, itemsOf}
 use Rattle.rules.specs.Refusals.{tableVerdict}
 use Rattle.rules.specs.declared.Verdict.{Verdict}
 use Rattle.rules.specs.declared.Verdict.the-variants.{Accepted, Refused}
-use Rattle.rules.proofs.ListsLaws.{both, by-test, flatMap-map}
+use Rattle.rules.proofs.MapLaws.{flatMap-map}
+use Rattle.rules.proofs.TestLaws.{both, by-test}
 use Rattle.rules.proofs.AllLaws.{map-all, flatMap-all}
 use Rattle.rules.proofs.StepLaws.{rows-unreached}
 use Rattle.demands.specs.Demand3.{Call, Result, outcomeOn, resultOf, run, Accepted-on, Permuted, KeepsOrder, SameOutcome, Demand3}

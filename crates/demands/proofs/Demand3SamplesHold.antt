@@ -20,9 +20,10 @@ use Rattle.rules.specs.Reach.{names, reaches}
 use Rattle.rules.specs.InCell.{startsNothing, newPlace, start, cancel, inCell}
 use Rattle.rules.specs.Answer.{rowBytes, answerHead, answerBytes, roomFor}
 use Rattle.rules.specs.Refusals.{tableVerdict, requestVerdict, recordVerdict, applyVerdict}
-use Rattle.rules.specs.Applied.{stepCell, cellRows, outcome, applied}
+use Rattle.rules.specs.Applied.{stepCell, outcome, applied}
+use Rattle.rules.specs.Reply.{cellRows, replyOf}
 use Rattle.rules.specs.ByHand.{head, free}
-use Rattle.rules.proofs.ListsLaws.{both, and-true, neither}
+use Rattle.rules.proofs.TestLaws.{both, and-true, neither}
 use Rattle.demands.specs.Demand3.{Call, runIn, Meet, KeepsOrder}
 use Rattle.demands.specs.Demand3Samples.{callOf, starting, stopping, startingHere, stoppingThere, twoCells, Demand3Shown}
 use Rattle.demands.proofs.Positions.{position-in}
@@ -65,7 +66,7 @@ keeps-two t c d n place i j a b h p q m =
 -- ---- the samples
 
 pub demand-3-shown : Demand3Shown
-unfolding flatMap gets pieces be toBe size numbers bytesOf padded every any those zeros oneOf above ascending fieldOf headOf headNumbers headBytes legalHead placeOf placeNumbers placeBytes isFree isLive liveFirst placesOf legalPlace isText running different legalPlaces cellOf placesBytes cellBytes legalCell cellsOf headerBytes tableBytes tableMarked legalTable requestOf itemsOf recordMarked allowed kindAllows areaFits withinLimits cancelsNothing names reaches startsNothing newPlace start cancel inCell rowBytes answerHead answerBytes roomFor tableVerdict requestVerdict recordVerdict applyVerdict stepCell cellRows outcome applied runIn
+unfolding flatMap gets pieces be toBe size numbers bytesOf padded every any those zeros oneOf above ascending fieldOf headOf headNumbers headBytes legalHead placeOf placeNumbers placeBytes isFree isLive liveFirst placesOf legalPlace isText running different legalPlaces cellOf placesBytes cellBytes legalCell cellsOf headerBytes tableBytes tableMarked legalTable requestOf itemsOf recordMarked allowed kindAllows areaFits withinLimits cancelsNothing names reaches startsNothing newPlace start cancel inCell rowBytes answerHead answerBytes roomFor tableVerdict requestVerdict recordVerdict applyVerdict stepCell cellRows replyOf outcome applied runIn
 demand-3-shown =
     record {
       starting-bytes = bytes-tested starting refl;

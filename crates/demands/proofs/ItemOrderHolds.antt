@@ -11,6 +11,7 @@ use Rattle.rules.specs.Layout.{current}
 use Rattle.rules.specs.Table.{Cell, cellsOf}
 use Rattle.rules.specs.Record.{requestOf, itemsOf, versionIn, zeroByte, longestAsked}
 use Rattle.rules.specs.Refusals.{recordVerdict, applyVerdict}
+use Rattle.rules.specs.Reply.{replyOf}
 use Rattle.rules.specs.Applied.{outcome, applied}
 use Rattle.rules.specs.declared.Request.{Request}
 use Rattle.rules.specs.declared.Verdict.{Verdict}
@@ -56,7 +57,7 @@ module _ (r s : List ℕ) (e : SameButForItems r s) where
 -- ---- outcomes
 
 outcome-same : (v : Verdict) (q : Request) (items others : List ℕ) → SameMembers others items → (t a : List ℕ) → SameReply (outcome current v q items t a) (outcome current v q others t a)
-unfolding outcome
+unfolding outcome replyOf
 outcome-same (Refused x) q items others same t a = record { number = refl; length = refl; table = refl; answer = refl }
 outcome-same Accepted q items others same t a =
     let steps = steps-alike others items same q (cellsOf current t) in

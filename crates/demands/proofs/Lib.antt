@@ -2,6 +2,8 @@ pub mod ContractsHold
 pub mod NumberLaws
 pub mod Demand1Holds
 pub mod Demand2Once
+pub mod Demand2Cells
+pub mod Demand2Records
 pub mod Demand2Holds
 pub mod Zip
 pub mod Positions
@@ -17,4 +19,7 @@ pub mod RowOrderHolds
 pub mod PrimaryCells
 pub mod PrimaryRunsHolds
 pub mod CarriedHolds
+pub mod ToldAlike
+pub mod SecondsAlike
+pub mod AnswerStaysHolds
 pub mod ConversionHolds

@@ -11,14 +11,14 @@ use borrow.Author.Tests.{leb-true}
 use Rattle.rules.specs.Lists.{every}
 use Rattle.rules.specs.Layout.{Version, current, longestPeriod}
 use Rattle.rules.specs.Record.{requestOf, itemsOf}
-use Rattle.rules.specs.Refusals.{numberOf, verdictNumber, refuseUnless, _then_, Test, firstOf, fitsIn, tableTests, requestTests, recordTests, tableVerdict, requestVerdict, recordVerdict, applyVerdict}
+use Rattle.rules.specs.Refusals.{numberOf, verdictNumber, refuseUnless, _then_, Test, firstOf, fitsIn, tableTests, olderTests, requestTests, recordTests, tableVerdict, olderVerdict, requestVerdict, recordVerdict, applyVerdict}
 use Rattle.rules.specs.Applied.{fill, reading, outcome, applied}
 use Rattle.rules.specs.declared.Request.{Request}
 use Rattle.rules.specs.declared.Refusal.{Refusal}
 use Rattle.rules.specs.declared.Refusal.the-variants.{ShortBuffer, ListDamaged, TooManySegments, NoSuchSegment}
 use Rattle.rules.specs.declared.Verdict.{Verdict}
 use Rattle.rules.specs.declared.Verdict.the-variants.{Accepted, Refused}
-use Rattle.rules.proofs.ListsLaws.{both}
+use Rattle.rules.proofs.TestLaws.{both}
 use Rattle.rules.proofs.OutcomeLaws.{number-positive}
 use Rattle.segments.specs.Segments.{mostSegments, segmentsOf, wholeList, segmentVerdict, lying}
 use Rattle.demands.specs.Demand1.{Stage, Given, Numbered}
@@ -76,9 +76,13 @@ within-first lowest highest (t ∷ ts) e =
     let ends = both (leb lowest n) (leb n highest) (first .0) in
     within-next (t .holds) (t .refusal) (firstOf ts) (leb-true lowest n (ends .0), leb-true n highest (ends .1)) (within-first lowest highest ts (first .1))
 
-pub within-table : (v : Version) (t : List ℕ) → Within 1 2 (tableVerdict v t)
+pub within-table : (t : List ℕ) → Within 1 2 (tableVerdict current t)
 unfolding tableVerdict every
-within-table v t = within-first 1 2 (tableTests v t) refl
+within-table t = within-first 1 2 (tableTests current t) refl
+
+pub within-older : (old : List ℕ) → Within 1 2 (olderVerdict old)
+unfolding olderVerdict every
+within-older old = within-first 1 2 (olderTests old) refl
 
 pub within-room : (need room : ℕ) → Within 8 8 (refuseUnless (fitsIn need room) ShortBuffer)
 within-room need room = within-last (fitsIn need room) ShortBuffer (omega arith, omega arith)

@@ -14,7 +14,8 @@ use Rattle.rules.specs.Record.{Kind, concurrent, cancelAll, isPrimary}
 use Rattle.rules.specs.InCell.{Done, startsNothing, newPlace, start, cancel, second, withCounts, later, ruleOf, inCell}
 use Rattle.rules.specs.declared.Place.{Place}
 use Rattle.rules.specs.declared.Request.{Request}
-use Rattle.rules.proofs.ListsLaws.{both, cond-either, by-test, neither, some-append, some-behind, some-flatMap}
+use Rattle.rules.proofs.ListsLaws.{some-append, some-behind, some-flatMap}
+use Rattle.rules.proofs.TestLaws.{both, cond-either, by-test, neither}
 use Rattle.rules.proofs.KindAreaLaws.{kind-by}
 use Rattle.rules.proofs.PlaceLaws.{text-facts, facts-text}
 use Rattle.rules.proofs.SecondLaws.{later-with, unending}

@@ -7,25 +7,23 @@ use mathlib.Core.List.{List, [], _∷_}
 use Prim.Native.Nat.{ℕ, zero, suc, _<_}
 use native.Mathlib.Omega.{arith}
 use lib.Dec.{eqb}
-use lib.ListN.{length, take}
+use lib.ListN.{length}
 use borrow.Author.Tests.{eqb-true, eqb-false}
 use Rattle.octets.specs.Runs.{Bytes}
-use Rattle.octets.proofs.RunsLaws.{take-sets-front}
 use Rattle.rules.specs.Lists.{any}
 use Rattle.rules.specs.Layout.{current, placesPerCell}
 use Rattle.rules.specs.Table.{Cell, running, cellOf, cellCount, cellsOf}
-use Rattle.rules.specs.Record.{writeReplace, isPrimary, concurrent, oneSecond, requestOf}
-use Rattle.rules.specs.Answer.{Row, answerBytes}
+use Rattle.rules.specs.Record.{writeReplace, isPrimary, concurrent, oneSecond, requestOf, itemsOf}
+use Rattle.rules.specs.Reply.{Row, replyOf}
 use Rattle.rules.specs.Refusals.{tableVerdict}
-use Rattle.rules.specs.Applied.{outcome, applied}
 use Rattle.rules.specs.declared.Verdict.the-variants.{Accepted}
-use Rattle.rules.proofs.ListsLaws.{by-test}
 use Rattle.rules.proofs.ListsLaws.{some-at, some-flatMap}
+use Rattle.rules.proofs.TestLaws.{by-test}
 use Rattle.rules.proofs.OutcomeLaws.{applied-accepted, applied-refused}
 use Rattle.rules.proofs.InCellLaws.{inCell-start}
 use Rattle.rules.proofs.TableCodec.{length-cellsOf}
-use Rattle.rules.proofs.AppliedLaws.{answer-fits}
-use Rattle.demands.specs.Demand2.{reached, ruled, rowsIn, rowsOf}
+use Rattle.rules.proofs.AnsweredLaws.{applied-told, applied-reads}
+use Rattle.demands.specs.Demand2.{reached, ruled, rowsIn}
 use Rattle.demands.specs.Demand3.{Call, Result, outcomeOn, resultOf, run, runIn, Accepted-on, Reaches}
 use Rattle.demands.specs.RowOrder.{cellIn}
 use Rattle.demands.specs.PrimaryRuns.{goesOut, GoesOutIn, stopsText, Spared, HasRow, InEachSecond, PrimaryRuns}
@@ -37,12 +35,6 @@ use Rattle.demands.proofs.RowOrderHolds.{cell-at, of-second}
 use Rattle.demands.proofs.PrimaryCells.{start-goes, spared-keeps, second-reports}
 
 -- ---- one call
-
-whole-answer : (t : List ℕ) → Bytes t → (c : Call) → Accepted-on t c → take (outcomeOn t c .length) (outcomeOn t c .answer) ≡ answerBytes (requestOf (c .req)) (rowsOf t (c .req))
-unfolding applied outcome
-whole-answer t bytes c z =
-    let e = applied-accepted current t (c .req) (c .answer) z in
-    rw e (take-sets-front (c .answer) (answerBytes (requestOf (c .req)) (rowsOf t (c .req))) (answer-fits current t (c .req) (c .answer) bytes (c .are-bytes) e))
 
 module _ (k identifier serial content : ℕ) where
   -- the table after it is legal and of the same size, the cell keeps its head, and the text goes out in it still
@@ -68,14 +60,17 @@ module _ (k identifier serial content : ℕ) where
 
     -- its row, if it is a second
     reports : Accepted-on t c → requestOf (c .req) .kind ≡ oneSecond → HasRow (cellIn t k .head .identity) content c (resultOf (outcomeOn t c))
+    unfolding replyOf
     reports z s =
         let has : Row → Bool = λ w. eqb (w .identity) (cellIn t k .head .identity) && eqb (w .content) content in
         let told : any has (rowsIn (c .req) (cellIn t k)) ≡ true =
         rw (of-second t (c .req) (c .answer) bytes (c .are-bytes) z s (cellIn t k)) (second-reports identifier serial content (cellIn t k) here) in
         let in-table = some-at (λ x. any has (rowsIn (c .req) x)) (cellsOf current t) k (cellOf current []) (rw (length-cellsOf current t) there) (rw (cell-at t (c .req) (c .answer) bytes (c .are-bytes) z k there) told) in
+        let e = applied-accepted current t (c .req) (c .answer) z in
         record {
-          rows = rowsOf t (c .req);
-          answered = whole-answer t bytes c z;
+          reply = replyOf (requestOf (c .req)) (itemsOf (c .req)) (cellsOf current t);
+          bytes = applied-told current t (c .req) (c .answer) bytes (c .are-bytes) e;
+          reads = applied-reads current t (c .req) (c .answer) bytes (c .are-bytes) e;
           among = some-flatMap (rowsIn (c .req)) (λ x. any has (rowsIn (c .req) x)) has (cellsOf current t) (λ x e. e) in-table;
         }
 

@@ -15,15 +15,16 @@ use Rattle.rules.specs.Record.{requestOf, itemsOf}
 use Rattle.rules.specs.Reach.{reaches}
 use Rattle.rules.specs.InCell.{inCell}
 use Rattle.rules.specs.Refusals.{tableVerdict, applyVerdict}
-use Rattle.rules.specs.Answer.{Row}
-use Rattle.rules.specs.Applied.{stepCell, cellRows, outcome, applied}
+use Rattle.rules.specs.Applied.{stepCell, outcome, applied}
+use Rattle.rules.specs.Reply.{cellRows, replyOf, Row}
 use Rattle.rules.specs.declared.Place.{Place}
 use Rattle.rules.specs.declared.Verdict.{Verdict}
 use Rattle.rules.specs.declared.Verdict.the-variants.{Accepted, Refused}
-use Rattle.rules.proofs.ListsLaws.{by-test}
+use Rattle.rules.proofs.TestLaws.{by-test}
 use Rattle.rules.proofs.AllLaws.{all-of, map-all}
 use Rattle.rules.proofs.TableCodec.{table-back}
-use Rattle.rules.proofs.AppliedLaws.{acceptance-stays, applied-cells, applied-legal, applied-bytes, applied-count}
+use Rattle.rules.proofs.AppliedLaws.{applied-cells, applied-legal, applied-bytes, applied-count}
+use Rattle.rules.proofs.AcceptedCallLaws.{acceptance-stays}
 use Rattle.demands.specs.Demand3.{Call, outcomeOn, resultOf, run, runIn}
 use Rattle.demands.proofs.Zip.{after, after-shift}
 
@@ -136,7 +137,7 @@ module _ (t : List ℕ) where
 
     -- a result depends on the verdict and, if the call is accepted, on its rows
     pub result-same : (u v : List ℕ) → OfRun u → OfRun v → (c : Call) → (verdict c ≡ Accepted → rowsOf c u ≡ rowsOf c v) → resultOf (outcomeOn u c) ≡ resultOf (outcomeOn v c)
-    unfolding applied outcome
+    unfolding applied outcome replyOf
     result-same u v g k c h = rw (verdict-stays u g c, verdict-stays v k c) (go (verdict c) h)
       where
         go : (w : Verdict) → (w ≡ Accepted → rowsOf c u ≡ rowsOf c v)

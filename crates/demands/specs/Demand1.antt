@@ -5,11 +5,11 @@ use mathlib.Core.List.{List, [], _∷_}
 use Prim.Native.Nat.{ℕ, _+_, _*_, _≤_}
 use lib.Dec.{leb}
 use lib.ListN.{length}
-use Rattle.rules.specs.Layout.{Version, version1, current, longestPeriod, headerSize, cellSize, recordSize, itemSize}
+use Rattle.rules.specs.Layout.{current, longestPeriod, headerSize, cellSize, recordSize, itemSize}
 use Rattle.rules.specs.Table.{cellCount}
 use Rattle.rules.specs.Record.{requestOf}
 use Rattle.rules.specs.Answer.{roomFor}
-use Rattle.rules.specs.Refusals.{numberOf, verdictNumber, refuseUnless, fewItems, fitsIn, headCount, legalHeads, tableVerdict, recordVerdict, requestVerdict, buildVerdict, convertVerdict, applyVerdict, writeVerdict}
+use Rattle.rules.specs.Refusals.{numberOf, verdictNumber, refuseUnless, fewItems, fitsIn, headCount, legalHeads, tableVerdict, olderVerdict, recordVerdict, requestVerdict, buildVerdict, convertVerdict, applyVerdict, writeVerdict}
 use Rattle.rules.specs.Applied.{noRequest}
 use Rattle.rules.specs.declared.Request.{Request}
 use Rattle.rules.specs.declared.Refusal.{Refusal}
@@ -30,8 +30,12 @@ pub record Stage : Type 0 where
   pub highest : ℕ
   pub verdict : Verdict
 
-abbrev pub tableStage : Version → List ℕ → Stage
-tableStage v table = record { lowest = 1; highest = 2; verdict = tableVerdict v table }
+abbrev pub tableStage : List ℕ → Stage
+tableStage table = record { lowest = 1; highest = 2; verdict = tableVerdict current table }
+
+-- a table to be converted: one of an older version
+abbrev pub olderStage : List ℕ → Stage
+olderStage old = record { lowest = 1; highest = 2; verdict = olderVerdict old }
 
 abbrev pub recordStage : List ℕ → Stage
 recordStage req = record { lowest = 3; highest = 7; verdict = recordVerdict current req }
@@ -89,10 +93,10 @@ pub record Demand1 : Type 2 where
       Filling d table table′ (buildVerdict heads room) (headsStage heads ∷ roomStage (headerSize + cellSize current * headCount heads) room ∷ [])
   pub of-convert : (old table : List ℕ) (d : PwsDone) (table′ : List ℕ) → ConvertPromise old table d table′
       → let room = length table in
-      Filling d table table′ (convertVerdict old room) (tableStage version1 old ∷ roomStage (headerSize + cellSize current * cellCount old) room ∷ [])
+      Filling d table table′ (convertVerdict old room) (olderStage old ∷ roomStage (headerSize + cellSize current * cellCount old) room ∷ [])
   pub apply-numbered : (table req answer : List ℕ) (d : PwsDone) (table′ answer′ : List ℕ) → ApplyPromise table req answer d table′ answer′
       → let room = length answer in
-      Numbered (d .number) (applyVerdict current table req room) (tableStage current table ∷ recordStage req ∷ roomStage (roomFor (requestOf req .kind) (cellCount table)) room ∷ [])
+      Numbered (d .number) (applyVerdict current table req room) (tableStage table ∷ recordStage req ∷ roomStage (roomFor current (requestOf req .kind) (cellCount table)) room ∷ [])
   pub apply-refused : (table req answer : List ℕ) (d : PwsDone) (table′ answer′ : List ℕ) → ApplyPromise table req answer d table′ answer′
       → (d .number ≡ 0 → ⊥) → (d .length ≡ 0) × (table′ ≡ table) × (answer′ ≡ answer)
   pub of-write : (request : Request) (items buffer : List ℕ) (d : PwsDone) (buffer′ : List ℕ) → WritePromise request items buffer d buffer′

@@ -13,9 +13,10 @@ use Rattle.rules.specs.Table.{Cell, cellOf, cellBytes, cellCount, cellRuns, cel
 use Rattle.rules.specs.Record.{writeReplace, requestOf, itemsOf, versionIn, renewed}
 use Rattle.rules.specs.Reach.{reaches}
 use Rattle.rules.specs.InCell.{inCell, startsNothing}
-use Rattle.rules.specs.Answer.{Row, rowBytes, answerHead}
+use Rattle.rules.specs.Answer.{answerOf, answerBytes, legalAnswer}
 use Rattle.rules.specs.Refusals.{tableVerdict, applyVerdict}
-use Rattle.rules.specs.Applied.{Outcome, written, readOf, itemAt, rowOf, cellRows, applied}
+use Rattle.rules.specs.Applied.{Outcome, written, readOf, itemAt, answered, applied}
+use Rattle.rules.specs.Reply.{rowBy, cellRows, Row}
 use Rattle.rules.specs.Sound.{fitRequest}
 use Rattle.rules.specs.declared.Request.{Request}
 use Rattle.rules.specs.declared.Verdict.the-variants.{Accepted}
@@ -39,7 +40,7 @@ ruled r c = record { head = c .head; places = inCell (requestOf r) (c .places) .
 
 -- the rows that the rule tells of a cell
 abbrev pub told : List ℕ → Cell → List Row
-told r c = map (rowOf c) (inCell (requestOf r) (c .places) .rows)
+told r c = map (rowBy c) (inCell (requestOf r) (c .places) .rows)
 
 -- what is reported of one cell, and of all in the table's order
 abbrev pub rowsIn : List ℕ → Cell → List Row
@@ -66,27 +67,31 @@ pub record TableChanged (t r : List ℕ) (o : Outcome) : Type 0 where
   -- .. and decodes to what the rule left
   pub reached-reads : (k : ℕ) → k < cellCount t → reached r (cellOf current (cellAt t k)) ≡ true → cellOf current (cellAt (o .table) k) ≡ ruled r (cellOf current (cellAt t k))
   -- no cell's head changes
-  pub head-stays : (k : ℕ) → k < cellCount t → take headSize (cellAt (o .table) k) ≡ take headSize (cellAt t k)
+  pub head-stays : (k : ℕ) → k < cellCount t → take (headSize current) (cellAt (o .table) k) ≡ take (headSize current) (cellAt t k)
 
 -- ---- of the answer
 
 pub record Answered (t r a : List ℕ) (o : Outcome) : Type 0 where
-  -- head and rows stand at the start of the buffer, and the bytes behind them stay
-  pub answer-whole : o .answer ≡ answerHead (requestOf r) (length (rowsOf t r)) ++ flatMap rowBytes (rowsOf t r) ++ drop (o .length) a
+  -- the answer's bytes stand at the start of the buffer, and those behind them stay
+  pub answer-whole : o .answer ≡ answerBytes current (answered current t r) ++ drop (o .length) a
+  -- read, they say what is told: the record's kind, identifier and serial number, and these rows
+  pub answer-reads : answerOf current (take (o .length) (o .answer)) ≡ answered current t r
+  pub answer-rows : answered current t r .reply .rows ≡ rowsOf t r
+  pub answer-legal : legalAnswer current (take (o .length) (o .answer)) ≡ true
   -- 12 + 14 for each row
-  pub answer-length : o .length ≡ answerSize + rowSize * length (rowsOf t r)
+  pub answer-length : o .length ≡ answerSize current + rowSize current * length (rowsOf t r)
   pub answer-fits : o .length ≤ length a
   -- rows are told of reached cells only, by the rule; the cells stand in ascending order, and so do their rows
   pub reached-told : (c : Cell) → reached r c ≡ true → rowsIn r c ≡ told r c
   pub unreached-silent : (c : Cell) → reached r c ≡ false → rowsIn r c ≡ []
-  pub cells-ascend : ascending (map identityAt (cellRuns current t)) ≡ true
+  pub cells-ascend : ascending (map (identityAt current) (cellRuns current t)) ≡ true
 
 -- ---- a start that the zero rules stop changes nothing and has no rows
 
 abbrev pub Idle : List ℕ → List ℕ → Outcome → Type 0
 Idle t r o =
     requestOf r .kind ≡ writeReplace → startsNothing (requestOf r) ≡ true
-    → (o .table ≡ t) × (rowsOf t r ≡ []) × (o .length ≡ answerSize)
+    → (o .table ≡ t) × (rowsOf t r ≡ []) × (o .length ≡ answerSize current)
 
 -- ---- records, written and read
 

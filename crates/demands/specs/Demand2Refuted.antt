@@ -40,7 +40,7 @@ ChangesFirstCellOnly u = (t r a : List ℕ) (k : ℕ) → 1 ≤ k → cellAt (u 
 
 -- .. or no answer is longer than what one cell can give
 abbrev pub ReportsFirstCellOnly : CallUnit → Type 0
-ReportsFirstCellOnly u = (t r a : List ℕ) → u t r a .length ≤ roomFor (requestOf r .kind) 1
+ReportsFirstCellOnly u = (t r a : List ℕ) → u t r a .length ≤ roomFor current (requestOf r .kind) 1
 
 -- on the table that an accepted call left, no other changes anything
 abbrev pub FirstRequestOnly : CallUnit → Type 0
@@ -53,10 +53,10 @@ StopsText r o =
     (requestOf r .kind ≡ cancelOrKill)
     × (cancelAll (requestOf r) ≡ false)
     × (o .number ≡ 0)
-    × (answerSize + rowSize ≤ o .length)
+    × ((answerSize current) + (rowSize current) ≤ o .length)
 
 abbrev pub firstCount : Outcome → ℕ
-firstCount o = fieldOf rowFields countInRow (drop answerSize (o .answer))
+firstCount o = fieldOf (rowFields current) countInRow (drop (answerSize current) (o .answer))
 
 -- it does not come from the table: it is guessed from the record ..
 abbrev pub InventsCounts : CallUnit → Type 0
@@ -92,7 +92,7 @@ refusing t r a = record { number = numberOf ShortBuffer; length = 0; table = t; 
 
 -- a head without rows to every call, though the table is right
 abbrev pub fixed : CallUnit
-fixed t r a = record { number = 0; length = answerSize; table = applied current t r a .table; answer = sets a 0 (answers 1 4370 16 0) }
+fixed t r a = record { number = 0; length = (answerSize current); table = applied current t r a .table; answer = sets a 0 (answers 1 4370 16 0) }
 
 -- the right answer, and the table as it was
 abbrev pub unchanging : CallUnit

@@ -13,7 +13,8 @@ use Rattle.rules.specs.Layout.{current, placesPerCell}
 use Rattle.rules.specs.Table.{isText, running, cellCount}
 use Rattle.rules.specs.Record.{Kind, aWriteReplace, aCancel, aRestart, aFailure, aSecond, unknownKind, kindOf, writeReplace, oneSecond, concurrent, cancelAll, isPrimary, requestOf}
 use Rattle.rules.specs.InCell.{startsNothing}
-use Rattle.rules.specs.Answer.{Row, answerBytes}
+use Rattle.rules.specs.Reply.{Reply}
+use Rattle.rules.specs.Answer.{answerTo, answerOf, answerBytes}
 use Rattle.rules.specs.Refusals.{tableVerdict}
 use Rattle.rules.specs.declared.Place.{Place}
 use Rattle.rules.specs.declared.Request.{Request}
@@ -60,11 +61,12 @@ Spared identifier serial k t (c ∷ cs) =
 
 -- ---- what its seconds answer
 
--- a call's answer, whole, has a row with this NR CGI and content
+-- a call's answer, whole, tells a row with this NR CGI and content
 pub record HasRow (identity content : ℕ) (c : Call) (x : Result) : Type 0 where
-  pub rows : List Row
-  pub answered : take (x .length) (x .answer) ≡ answerBytes (requestOf (c .req)) rows
-  pub among : any (λ w. eqb (w .identity) identity && eqb (w .content) content) rows ≡ true
+  pub reply : Reply
+  pub bytes : take (x .length) (x .answer) ≡ answerBytes current (answerTo (requestOf (c .req)) reply)
+  pub reads : answerOf current (take (x .length) (x .answer)) ≡ answerTo (requestOf (c .req)) reply
+  pub among : any (λ w. eqb (w .identity) identity && eqb (w .content) content) (reply .rows) ≡ true
 
 -- of the results of calls on t: each accepted second's
 abbrev pub InEachSecond : List ℕ → List Call → (identity content : ℕ) → List Result → Type 0

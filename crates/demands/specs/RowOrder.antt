@@ -1,28 +1,19 @@
 -- Document 01, "The answer": "Cells ascend", and a second "gives a row per broadcast, in place order before freeing, with sent after the broadcast".
 -- Of the rows of an accepted call, which demand 2 finds in its answer (`Answered`).
 use mathlib.Core.Path.{_≡_}
-use mathlib.Core.Bool.{Bool, true, cond, _&&_}
-use mathlib.Core.List.{List, [], _∷_, map, flatMap}
+use mathlib.Core.Bool.{true, cond}
+use mathlib.Core.List.{List, [], _∷_, flatMap}
 use Prim.Native.Nat.{ℕ, _<_}
-use lib.Dec.{eqb, leb}
+use lib.Dec.{eqb}
 use Rattle.octets.specs.Runs.{Bytes}
-use Rattle.rules.specs.Lists.{every, those, ascending}
+use Rattle.rules.specs.Lists.{those, ascending, rising}
 use Rattle.rules.specs.Layout.{current}
 use Rattle.rules.specs.Table.{Cell, cellOf, cellCount}
 use Rattle.rules.specs.Record.{oneSecond, requestOf}
 use Rattle.rules.specs.InCell.{isDue, later}
-use Rattle.rules.specs.Answer.{Row}
+use Rattle.rules.specs.Reply.{Row, identities}
 use Rattle.rules.specs.Applied.{applied}
 use Rattle.demands.specs.Demand2.{cellAt, rowsIn, rowsOf}
-
--- the NR CGIs of the rows
-abbrev pub identities : List Row → List ℕ
-identities rows = map (λ w. w .identity) rows
-
--- ascending, with repeats
-unfoldable pub rising : List ℕ → Bool
-rising [] = true
-rising (x ∷ xs) = every (leb x) xs && rising xs
 
 -- the k-th cell of a table, and the rows with its NR CGI
 abbrev pub cellIn : List ℕ → ℕ → Cell

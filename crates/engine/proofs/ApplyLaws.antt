@@ -16,21 +16,26 @@ use Rattle.rules.specs.Layout.{current, headerSize, recordSize, answerSize, row
 use Rattle.rules.specs.Table.{cellOf, cellCount, cellRuns, cellsOf, tableBytes, placeBytes}
 use Rattle.rules.specs.Record.{writeReplace, unknownKind, kindOf, requestOf, itemsOf}
 use Rattle.rules.specs.InCell.{startsNothing, newPlace}
-use Rattle.rules.specs.Answer.{Row, rowBytes, answerHead, answerBytes, roomFor}
+use Rattle.rules.specs.Answer.{answerTo, rowBytes, answerHead, answerBytes, roomFor}
 use Rattle.rules.specs.Refusals.{tableVerdict, recordVerdict, applyVerdict}
-use Rattle.rules.specs.Applied.{stepCell, cellRows, outcome, outcomeBy, applied}
+use Rattle.rules.specs.Applied.{stepCell, answered, outcome, outcomeBy, applied}
+use Rattle.rules.specs.Reply.{Row, cellRows, replyOf}
 use Rattle.rules.specs.declared.Request.{Request}
 use Rattle.rules.specs.declared.Refusal.{Refusal}
 use Rattle.rules.specs.declared.Refusal.the-variants.{ShortBuffer}
 use Rattle.rules.specs.declared.Writing.the-variants.{Written, Unwritten}
 use Rattle.rules.specs.declared.Verdict.the-variants.{Accepted, Refused}
-use Rattle.rules.proofs.ListsLaws.{both}
-use Rattle.rules.proofs.TableCodec.{table-accepted, table-back}
-use Rattle.rules.proofs.RecordTrips.{AcceptedRecord, record-accepted, within-own}
+use Rattle.rules.proofs.TestLaws.{both}
+use Rattle.rules.proofs.TableCodec.{table-back}
+use Rattle.rules.proofs.LegalTableLaws.{table-accepted}
+use Rattle.rules.proofs.AcceptedRecordLaws.{AcceptedRecord, record-accepted, within-own}
 use Rattle.rules.proofs.VerdictLaws.{apply-chain, AllowedRequest, request-accepted}
 use Rattle.rules.proofs.KindAreaLaws.{kind-known}
 use Rattle.rules.proofs.StartLaws.{new-sound}
-use Rattle.rules.proofs.AppliedLaws.{AcceptedCall, call-accepted, record-fits, length-answerHead, length-answerBytes, length-rowBytes, answer-fits, applied-table, applied-answer}
+use Rattle.rules.proofs.AppliedLaws.{answer-fits, applied-table, applied-answer, applied-written}
+use Rattle.rules.proofs.AcceptedCallLaws.{AcceptedCall, call-accepted, record-fits}
+use Rattle.rules.proofs.AnswerCodec.{length-answerHead, length-answerBytes}
+use Rattle.rules.proofs.RowCodec.{length-rowBytes}
 use Rattle.rules.proofs.AppliedRuns.{applied-by-runs, rows-of-runs, idle-cells, idle-answer}
 use Rattle.in_cell.specs.Step.{ToStep}
 use Rattle.engine.specs.Walk.{rowsAfter, tableAfter, isIdle, WalkOut, Granted}
@@ -46,11 +51,11 @@ module _ (t r : List ℕ) (room : ℕ) where
     record-refused x e = rw (apply-chain current t r room, a, e)
 
     module _ (b : recordVerdict current r ≡ Accepted) where
-      pub room-refused : room < roomFor (requestOf r .kind) (cellCount t) → Refused ShortBuffer ≡ applyVerdict current t r room
-      room-refused h = rw (apply-chain current t r room, a, b, lt-leb (roomFor (requestOf r .kind) (cellCount t)) room h)
+      pub room-refused : room < roomFor current (requestOf r .kind) (cellCount t) → Refused ShortBuffer ≡ applyVerdict current t r room
+      room-refused h = rw (apply-chain current t r room, a, b, lt-leb (roomFor current (requestOf r .kind) (cellCount t)) room h)
 
-      pub none-refused : roomFor (requestOf r .kind) (cellCount t) ≤ room → Accepted ≡ applyVerdict current t r room
-      none-refused h = rw (apply-chain current t r room, a, b, le-leb (roomFor (requestOf r .kind) (cellCount t)) room h)
+      pub none-refused : roomFor current (requestOf r .kind) (cellCount t) ≤ room → Accepted ≡ applyVerdict current t r room
+      none-refused h = rw (apply-chain current t r room, a, b, le-leb (roomFor current (requestOf r .kind) (cellCount t)) room h)
 
 pub long-table : (t : List ℕ) → tableVerdict current t ≡ Accepted → headerSize ≤ length t
 long-table t e = omega (arith, table-accepted current t e .size)
@@ -77,11 +82,15 @@ unfolding applied outcome
 refused-applied t r a x e = rw e
 
 pub granted-applied : (t r a t′ a′ : List ℕ) (n : ℕ) → applyVerdict current t r (length a) ≡ Accepted → Granted t r a t′ a′ n
-    → outcomeBy (Written (answerSize + rowSize * n)) t′ a′ ≡ applied current t r a
+    → outcomeBy (Written (answerSize current + rowSize current * n)) t′ a′ ≡ applied current t r a
 unfolding applied outcome
 granted-applied t r a t′ a′ n e g = rw (g .rows, g .table, g .answer, e)
 
 -- ---- granted
+
+-- the head of a request's answer
+abbrev headFor : Request → ℕ → List ℕ
+headFor q n = answerHead current (q .kind) (q .identifier) (q .serial) n
 
 module _ (t r a : List ℕ) (bt : Bytes t) (br : Bytes r) (e : applyVerdict current t r (length a) ≡ Accepted) where
   call : AcceptedCall current t r (length a)
@@ -94,16 +103,12 @@ module _ (t r a : List ℕ) (bt : Bytes t) (br : Bytes r) (e : applyVerdict curr
   allowed : AllowedRequest (longestPeriod current) (requestOf r) (itemsOf r)
   allowed = request-accepted (longestPeriod current) (requestOf r) (itemsOf r) (within-own current r accepted)
 
-  applied-long : applied current t r a .length ≡ length (answerBytes (requestOf r) (flatMap (cellRows (requestOf r) (itemsOf r)) (cellsOf current t)))
-  unfolding applied outcome
-  applied-long = rw e
-
-  pub answer-room : answerSize ≤ length a
-  answer-room = omega (arith, length-answerBytes (requestOf r) (flatMap (cellRows (requestOf r) (itemsOf r)) (cellsOf current t)), answer-fits current t r a bt br e)
+  pub answer-room : answerSize current ≤ length a
+  answer-room = omega (arith, length-answerBytes current (answered current t r), answer-fits current t r a bt br e)
 
   -- a start that the zero rules stop
-  pub idle-granted : (q : Request) → q ≡ requestOf r → isIdle q ≡ true → (a′ : List ℕ) → a′ ≡ sets a 0 (answerHead q 0) → Granted t r a t a′ 0
-  unfolding isIdle answerBytes flatMap
+  pub idle-granted : (q : Request) → q ≡ requestOf r → isIdle q ≡ true → (a′ : List ℕ) → a′ ≡ sets a 0 (headFor q 0) → Granted t r a t a′ 0
+  unfolding isIdle answerBytes replyOf flatMap
   idle-granted q eq idle a′ ea =
       let h = both (eqb (q .kind) writeReplace) (startsNothing q) idle in
       let k = eqb-true (q .kind) writeReplace (h .0) in
@@ -112,32 +117,32 @@ module _ (t r a : List ℕ) (bt : Bytes t) (br : Bytes r) (e : applyVerdict curr
       record {
         table = sym (applied-table current t r a bt br e ∙ ap (tableBytes current) cells ∙ table-back current t bt (call .table));
         answer = ea ∙ rw eq (sym (applied-answer current t r a bt br e ∙ rw (rows, append-nil)));
-        rows = sym (applied-long ∙ rw (rows, append-nil) (length-answerHead (requestOf r) 0));
+        rows = sym (applied-written current t r a bt br e ∙ rw (rows, append-nil) (length-answerHead current (requestOf r .kind) (requestOf r .identifier) (requestOf r .serial) 0));
         few = omega arith;
       }
 
   -- the walk, and then the head
-  walked : (t′ a₁ a₂ : List ℕ) (n : ℕ) → WalkOut t r (requestOf r) a t′ a₁ n → a₂ ≡ sets a₁ 0 (answerHead (requestOf r) n) → Granted t r a t′ a₂ n
-  unfolding answerBytes tableAfter rowsAfter
+  walked : (t′ a₁ a₂ : List ℕ) (n : ℕ) → WalkOut t r (requestOf r) a t′ a₁ n → a₂ ≡ sets a₁ 0 (headFor (requestOf r) n) → Granted t r a t′ a₂ n
+  unfolding answerBytes replyOf tableAfter rowsAfter
   walked t′ a₁ a₂ n w ea =
       let rs : List Row = flatMap (λ c. cellRows (requestOf r) (itemsOf r) (cellOf current c)) (cellRuns current t) in
       let same : flatMap (cellRows (requestOf r) (itemsOf r)) (cellsOf current t) ≡ rs = rows-of-runs current (requestOf r) (itemsOf r) t in
-      let long : length (flatMap rowBytes rs) ≡ rowSize * length rs = length-flatMap rowSize rowBytes rs length-rowBytes in
-      let all : answerSize + rowSize * length rs ≤ length a = rw (length-answerBytes, same) at (answer-fits current t r a bt br e) in
-      let head : length (answerHead (requestOf r) (length rs)) ≡ answerSize = length-answerHead (requestOf r) (length rs) in
-      let whole : List ℕ = answerHead (requestOf r) (length rs) ++ flatMap rowBytes rs in
-      let front : sets (sets a answerSize (flatMap rowBytes rs)) 0 (answerHead (requestOf r) (length rs)) ≡ sets a 0 whole =
-      sets-back-first (answerHead (requestOf r) (length rs)) (flatMap rowBytes rs) a answerSize (sym head) (omega arith) in
-      let stored : a₂ ≡ sets a 0 whole = ea ∙ ap₂ (λ x k. sets x 0 (answerHead (requestOf r) k)) (w .out) (w .rows) ∙ front in
-      let given : applied current t r a .answer ≡ sets a 0 whole = applied-answer current t r a bt br e ∙ ap (λ x. sets a 0 (answerHead (requestOf r) (length x) ++ flatMap rowBytes x)) same in
+      let long : length (flatMap (rowBytes current) rs) ≡ rowSize current * length rs = length-flatMap (rowSize current) (rowBytes current) rs (length-rowBytes current) in
+      let all : answerSize current + rowSize current * length rs ≤ length a = rw (length-answerBytes current, same) at (answer-fits current t r a bt br e) in
+      let head : length (headFor (requestOf r) (length rs)) ≡ answerSize current = length-answerHead current (requestOf r .kind) (requestOf r .identifier) (requestOf r .serial) (length rs) in
+      let whole : List ℕ = headFor (requestOf r) (length rs) ++ flatMap (rowBytes current) rs in
+      let front : sets (sets a (answerSize current) (flatMap (rowBytes current) rs)) 0 (headFor (requestOf r) (length rs)) ≡ sets a 0 whole =
+      sets-back-first (headFor (requestOf r) (length rs)) (flatMap (rowBytes current) rs) a (answerSize current) (sym head) (omega arith) in
+      let stored : a₂ ≡ sets a 0 whole = ea ∙ ap₂ (λ x k. sets x 0 (headFor (requestOf r) k)) (w .out) (w .rows) ∙ front in
+      let given : applied current t r a .answer ≡ sets a 0 whole = applied-answer current t r a bt br e ∙ ap (λ x. sets a 0 (headFor (requestOf r) (length x) ++ flatMap (rowBytes current) x)) same in
       record {
         table = w .table ∙ sym (applied-by-runs current t r a bt br e);
         answer = stored ∙ sym given;
-        rows = sym (applied-long ∙ rw (same, w .rows) (length-answerBytes (requestOf r) rs));
+        rows = sym (applied-written current t r a bt br e ∙ rw (same, w .rows) (length-answerBytes current (answerTo (requestOf r) (record { rows = rs }))));
         few = w .few;
       }
 
-  pub walk-granted : (q : Request) → q ≡ requestOf r → (t′ a₁ a₂ : List ℕ) (n : ℕ) → WalkOut t r q a t′ a₁ n → a₂ ≡ sets a₁ 0 (answerHead q n) → Granted t r a t′ a₂ n
+  pub walk-granted : (q : Request) → q ≡ requestOf r → (t′ a₁ a₂ : List ℕ) (n : ℕ) → WalkOut t r q a t′ a₁ n → a₂ ≡ sets a₁ 0 (headFor q n) → Granted t r a t′ a₂ n
   walk-granted q eq t′ a₁ a₂ n w ea = walked t′ a₁ a₂ n (rw eq at w) (rw eq at ea)
 
   -- what the walk asks

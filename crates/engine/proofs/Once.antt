@@ -11,7 +11,6 @@ use Rattle.engine.proofs.apply.apply.Reads as apply
 use Rattle.engine.proofs.walk.walk.Reads as walk
 use Rattle.engine.proofs.reach.naming_of.Reads as naming-of
 use Rattle.engine.proofs.reach.named.Reads as named
-use Rattle.engine.proofs.head.put_head.Reads as put-head
 
 pub apply-once : Settles {X = Writing × List ℕ × List ℕ} apply.Learnt (λ κ r e. (r, now (e .0), now (e .1 .1 .0)))
 apply-once κ args r s e f p q i =
@@ -28,7 +27,3 @@ naming-of-once κ args r s e f p q = one-outcome (p .keys) (q .keys)
 
 pub named-once : SettlesResult named.Learnt
 named-once κ args r s e f = one-outcome
-
--- of an answer's buffer
-pub put-head-once : Settles put-head.Learnt (λ κ r e. now (e .0))
-put-head-once κ args r s e f = one-outcome

@@ -21,17 +21,18 @@ use Rattle.rules.specs.Reach.{names, reaches}
 use Rattle.rules.specs.InCell.{inCell}
 use Rattle.rules.specs.Answer.{rowBytes, rowsPerCell, roomFor}
 use Rattle.rules.specs.Refusals.{applyVerdict}
-use Rattle.rules.specs.Applied.{cellAfter, rowOf, cellRows}
+use Rattle.rules.specs.Applied.{cellAfter}
+use Rattle.rules.specs.Reply.{rowBy, cellRows}
 use Rattle.rules.specs.declared.Request.{Request}
 use Rattle.rules.specs.declared.Verdict.the-variants.{Accepted}
 use Rattle.rules.proofs.KindAreaLaws.{rows-most, second-area}
 use Rattle.rules.proofs.VerdictLaws.{request-accepted}
 use Rattle.rules.proofs.CellCodec.{legal-cell}
-use Rattle.rules.proofs.TableCodec.{table-accepted}
+use Rattle.rules.proofs.LegalTableLaws.{table-accepted}
 use Rattle.rules.proofs.StepLaws.{step-reached, rows-reached, rows-unreached}
 use Rattle.rules.proofs.RecordCodec.{length-itemsOf}
-use Rattle.rules.proofs.RecordTrips.{record-accepted}
-use Rattle.rules.proofs.AppliedLaws.{call-accepted}
+use Rattle.rules.proofs.AcceptedRecordLaws.{record-accepted}
+use Rattle.rules.proofs.AcceptedCallLaws.{call-accepted}
 use Rattle.cell_read.specs.Places.{livePlaces, withPlaces}
 use Rattle.cell_read.proofs.PlacesLaws.{withPlaces-cell}
 use Rattle.in_cell.specs.Step.{rowsBytes, Ready, Stepped}
@@ -55,13 +56,13 @@ module _ (q : Request) (items c : List ℕ) where
         rw (e, step-reached q items (cellOf current c) e)
         (sym (withPlaces-cell c b n (legal-cell current c l .0) (inCell q (livePlaces c) .places)))
 
-    pub rows-of-reached : flatMap rowBytes (cellRows q items (cellOf current c)) ≡ rowsBytes c (inCell q (livePlaces c) .rows)
+    pub rows-of-reached : flatMap (rowBytes current) (cellRows q items (cellOf current c)) ≡ rowsBytes c (inCell q (livePlaces c) .rows)
     unfolding rowsBytes cellOf
     rows-of-reached = rw (rows-reached q items (cellOf current c) e)
 
     pub count-of-reached : length (cellRows q items (cellOf current c)) ≡ length (inCell q (livePlaces c) .rows)
     unfolding cellOf
-    count-of-reached = rw (rows-reached q items (cellOf current c) e) (length-map (inCell q (livePlaces c) .rows) (rowOf (cellOf current c)))
+    count-of-reached = rw (rows-reached q items (cellOf current c) e) (length-map (inCell q (livePlaces c) .rows) (rowBy (cellOf current c)))
 
 -- ---- the walk's own facts: q is the request, items its items, per the rows that a cell may have
 
@@ -69,15 +70,15 @@ abbrev pub GoingOn : Request → List ℕ → List ℕ → List ℕ → ℕ → 
 GoingOn q items = Going (cellAfter current q items) (λ c. cellRows q items (cellOf current c)) (rowsPerCell (q .kind))
 
 module _ (t : List ℕ) (cells : ℕ) (r : List ℕ) (q : Request) (a : List ℕ) (bytes : Bytes t) (accepted : applyVerdict current t r (length a) ≡ Accepted) (n : cells ≡ cellCount t) (request : q ≡ requestOf r) where
-  pub begin : GoingOn q (itemsOf r) (tableAfter q (itemsOf r) t (cellRuns current t)) (sets a answerSize (flatMap rowBytes (rowsAfter q (itemsOf r) (cellRuns current t))))
-      (length (rowsAfter q (itemsOf r) (cellRuns current t))) (placesPerCell * mostCells) (length t) (length a) t a headerSize answerSize 0 cells
+  pub begin : GoingOn q (itemsOf r) (tableAfter q (itemsOf r) t (cellRuns current t)) (sets a (answerSize current) (flatMap (rowBytes current) (rowsAfter q (itemsOf r) (cellRuns current t))))
+      (length (rowsAfter q (itemsOf r) (cellRuns current t))) (placesPerCell * mostCells) (length t) (length a) t a headerSize (answerSize current) 0 cells
   unfolding tableAfter rowsAfter roomFor
   begin =
       let call = call-accepted current t r (length a) accepted in
       let legal = table-accepted current t (call .table) in
       let k = rowsPerCell (q .kind) in
       let kind : rowsPerCell (requestOf r .kind) ≡ k = ap (λ (x : Request). rowsPerCell (x .kind)) (sym request) in
-      let room : answerSize + rowSize * k * cells ≤ length a = rw (n, ← kind) (call .enough) in
+      let room : (answerSize current) + (rowSize current) * k * cells ≤ length a = rw (n, ← kind) (call .enough) in
       let fewer : cells ≤ mostCells = rw n (legal .few) in
       let most : k * cells ≤ placesPerCell * mostCells = mul-le-mul (rows-most (q .kind)) fewer in
       record {
@@ -85,7 +86,7 @@ module _ (t : List ℕ) (cells : ℕ) (r : List ℕ) (q : Request) (a : List ℕ
         bytes = bytes-drop headerSize t bytes;
         fine = rw n (legal .cells);
         place = refl;
-        room = omega (arith, mul-assoc rowSize k cells);
+        room = omega (arith, mul-assoc (rowSize current) k cells);
         few = omega arith;
         same-t = refl;
         same-a = refl;
@@ -115,21 +116,21 @@ module _ (q : Request) (items T A : List ℕ) (R most lt la : ℕ) (t a : List �
   -- a cell that is reached, as its routine leaves it
   stepped-here : reaches (q .area) items (cellOf current (take (cellSize current) (drop at t)) .head) ≡ true → (m : ℕ) → m ≡ length a - out → (c′ o′ : List ℕ) (n : ℕ)
       → Stepped (inCell q (livePlaces (midOf at (cellSize current) t))) (midOf at (cellSize current) t) (midOf out m a) c′ o′ (rowsPerCell (q .kind)) n → length c′ ≡ length (midOf at (cellSize current) t)
-      → GoingOn q items T A R most lt la (putMid at (cellSize current) t c′) (putMid out m a o′) (at + cellSize current) (out + rowSize * n) (rows + n) (left - 1)
+      → GoingOn q items T A R most lt la (putMid at (cellSize current) t c′) (putMid out m a o′) (at + cellSize current) (out + (rowSize current) * n) (rows + n) (left - 1)
   stepped-here e m em c′ o′ n s same =
       let c : List ℕ = take (cellSize current) (drop at t) in
       let b : Bytes c = cell-bytes _ _ _ _ _ _ _ _ _ _ _ _ _ _ _ go some in
       let long : length c ≡ cellSize current = cell-long _ _ _ _ _ _ _ _ _ _ _ _ _ _ _ go some in
       let l : legalCell current c ≡ true = cell-legal _ _ _ _ _ _ _ _ _ _ _ _ _ _ _ go some in
       let new : c′ ≡ cellAfter current q items c = s .cell ∙ sym (after-reached q items c b long l e) in
-      let told : o′ ≡ sets (midOf out m a) 0 (flatMap rowBytes (cellRows q items (cellOf current c))) =
+      let told : o′ ≡ sets (midOf out m a) 0 (flatMap (rowBytes current) (cellRows q items (cellOf current c))) =
       s .rows ∙ ap (sets (midOf out m a) 0) (sym (rows-of-reached q items c b long l e)) in
       rw told
       (step-cell _ _ _ _ _ _ _ _ _ _ _ _ _ _ _ go some m em c′ n new (same ∙ long) (s .many ∙ sym (count-of-reached q items c b long l e)) (s .few))
 
   pub stepped : reaches (q .area) items (cellOf current (take (cellSize current) (drop at t)) .head) ≡ true → (k m : ℕ) → k ≡ cellSize current → m ≡ length a - out
       → (c′ o′ : List ℕ) (n : ℕ) → Stepped (inCell q (livePlaces (midOf at k t))) (midOf at k t) (midOf out m a) c′ o′ (rowsPerCell (q .kind)) n → length c′ ≡ length (midOf at k t)
-      → GoingOn q items T A R most lt la (putMid at k t c′) (putMid out m a o′) (at + cellSize current) (out + rowSize * n) (rows + n) (left - 1)
+      → GoingOn q items T A R most lt la (putMid at k t c′) (putMid out m a o′) (at + cellSize current) (out + (rowSize current) * n) (rows + n) (left - 1)
   stepped e k m ek em c′ o′ n s same = rw ek (stepped-here e m em c′ o′ n (rw ek at s) (rw ek at same))
 
   -- the same without a row
@@ -137,7 +138,7 @@ module _ (q : Request) (items T A : List ℕ) (R most lt la : ℕ) (t a : List �
       → (c′ o′ : List ℕ) (n : ℕ) → Stepped (inCell q (livePlaces (midOf at k t))) (midOf at k t) (midOf out m a) c′ o′ (rowsPerCell (q .kind)) n → length c′ ≡ length (midOf at k t)
       → n ≤ 0 → GoingOn q items T A R most lt la (putMid at k t c′) (putMid out m a o′) (at + cellSize current) out rows (left - 1)
   stepped-silent e k m ek em c′ o′ n s same z =
-      let eo : out + rowSize * n ≡ out = omega arith in
+      let eo : out + (rowSize current) * n ≡ out = omega arith in
       let er : rows + n ≡ rows = omega arith in
       rw (eo, er) at (stepped e k m ek em c′ o′ n s same)
 
@@ -167,7 +168,7 @@ module _ (t : List ℕ) (cells : ℕ) (r : List ℕ) (items : ℕ) (q : Request)
   all-looked k h = rw (length-itemsOf r, ← w .all-items) h
 
 -- what names the cell that was lent
-pub named-here : (t : List ℕ) (at k area : ℕ) (s : Naming) → k ≡ cellSize current → KeysOf area (take headSize (midOf at k t)) s
+pub named-here : (t : List ℕ) (at k area : ℕ) (s : Naming) → k ≡ cellSize current → KeysOf area (take (headSize current) (midOf at k t)) s
     → (x : ℕ) → namedBy s x ≡ names area (cellOf current (take (cellSize current) (drop at t)) .head) x
 unfolding cellOf
 named-here t at k area s ek h x = h .meant x ∙ rw ek

@@ -15,9 +15,10 @@ use Rattle.octets.proofs.RunsLaws.{sets-run, bytes-drop, bytes-take}
 use Rattle.rules.specs.Lists.{every}
 use Rattle.rules.specs.Layout.{current, cellSize, rowSize, answerSize}
 use Rattle.rules.specs.Table.{legalCell}
-use Rattle.rules.specs.Answer.{Row, rowBytes}
-use Rattle.rules.proofs.ListsLaws.{both}
-use Rattle.rules.proofs.AppliedLaws.{length-rowBytes}
+use Rattle.rules.specs.Answer.{rowBytes}
+use Rattle.rules.specs.Reply.{Row}
+use Rattle.rules.proofs.TestLaws.{both}
+use Rattle.rules.proofs.RowCodec.{length-rowBytes}
 
 -- ---- a part of a list that was lent, and comes back with the same length
 
@@ -59,14 +60,14 @@ module _ (f : List ℕ → List ℕ) (g : List ℕ → List Row) (per : ℕ) whe
     pub size : at + cellSize current * left ≡ length t
     pub bytes : Bytes (drop at t)
     pub fine : every (legalCell current) (pieces (cellSize current) left (drop at t)) ≡ true
-    pub place : out ≡ answerSize + rowSize * rows
-    pub room : out + rowSize * (per * left) ≤ length a
+    pub place : out ≡ (answerSize current) + (rowSize current) * rows
+    pub room : out + (rowSize current) * (per * left) ≤ length a
     pub few : rows + per * left ≤ most
     pub same-t : length t ≡ lt
     pub same-a : length a ≡ la
     pub table : T ≡ take at t ++ flatMap f (pieces (cellSize current) left (drop at t))
     pub count : R ≡ rows + length (flatMap g (pieces (cellSize current) left (drop at t)))
-    pub answer : A ≡ sets a out (flatMap rowBytes (flatMap g (pieces (cellSize current) left (drop at t))))
+    pub answer : A ≡ sets a out (flatMap (rowBytes current) (flatMap g (pieces (cellSize current) left (drop at t))))
 
   module _ (T A : List ℕ) (R most lt la : ℕ) (t a : List ℕ) (at out rows left : ℕ) (go : Going T A R most lt la t a at out rows left) where
     -- the walk is over
@@ -109,7 +110,7 @@ module _ (f : List ℕ → List ℕ) (g : List ℕ → List Row) (per : ℕ) whe
       one-less : per * left ≡ per * (left - 1) + per
       one-less = let e : left ≡ suc (left - 1) = omega arith in ap (λ n. per * n) e ∙ mul-suc per (left - 1)
 
-      pub room-here : out + rowSize * per ≤ length a
+      pub room-here : out + (rowSize current) * per ≤ length a
       room-here = omega (arith, go .room, one-less)
 
       pub few-here : rows + per ≤ most
@@ -139,17 +140,17 @@ module _ (f : List ℕ → List ℕ) (g : List ℕ → List Row) (per : ℕ) whe
       -- a cell that is reached: its part of the table comes back changed, and the rest of the answer with its rows
       pub step-cell : (m : ℕ) → m ≡ length a - out → (c′ : List ℕ) (n : ℕ) → c′ ≡ f (take (cellSize current) (drop at t)) → length c′ ≡ cellSize current
           → n ≡ length (g (take (cellSize current) (drop at t))) → n ≤ per
-          → Going T A R most lt la (putMid at (cellSize current) t c′) (putMid out m a (sets (midOf out m a) 0 (flatMap rowBytes (g (take (cellSize current) (drop at t)))))) (at + cellSize current) (out + rowSize * n) (rows + n) (left - 1)
+          → Going T A R most lt la (putMid at (cellSize current) t c′) (putMid out m a (sets (midOf out m a) 0 (flatMap (rowBytes current) (g (take (cellSize current) (drop at t)))))) (at + cellSize current) (out + (rowSize current) * n) (rows + n) (left - 1)
       step-cell m em c′ n new long many few =
           let fits : at + cellSize current ≤ length t = omega (arith, go .size) in
           let rs : List Row = g (take (cellSize current) (drop at t)) in
-          let ln : length (flatMap rowBytes rs) ≡ rowSize * n = rw many (length-flatMap rowSize rowBytes rs length-rowBytes) in
-          let fits-a : out + length (flatMap rowBytes rs) ≤ length a = omega (arith, room-here) in
-          let ea : putMid out m a (sets (midOf out m a) 0 (flatMap rowBytes rs)) ≡ sets a out (flatMap rowBytes rs) = lent-sets a (flatMap rowBytes rs) out m fits-a em in
+          let ln : length (flatMap (rowBytes current) rs) ≡ (rowSize current) * n = rw many (length-flatMap (rowSize current) (rowBytes current) rs (length-rowBytes current)) in
+          let fits-a : out + length (flatMap (rowBytes current) rs) ≤ length a = omega (arith, room-here) in
+          let ea : putMid out m a (sets (midOf out m a) 0 (flatMap (rowBytes current) rs)) ≡ sets a out (flatMap (rowBytes current) rs) = lent-sets a (flatMap (rowBytes current) rs) out m fits-a em in
           let ed : drop (at + cellSize current) (putMid at (cellSize current) t c′) ≡ drop (at + cellSize current) t = lent-drop t c′ at (cellSize current) fits long in
           let et : take (at + cellSize current) (putMid at (cellSize current) t c′) ≡ take at t ++ c′ = lent-take t c′ at (cellSize current) fits long in
           let kt : length (putMid at (cellSize current) t c′) ≡ length t = same-len-mid at (cellSize current) t c′ (long ∙ sym cell-long) in
-          let ka : length (sets a out (flatMap rowBytes rs)) ≡ length a = length-sets a out (flatMap rowBytes rs) in
+          let ka : length (sets a out (flatMap (rowBytes current) rs)) ≡ length a = length-sets a out (flatMap (rowBytes current) rs) in
           rw ea
           (record {
             size = omega (arith, go .size);
@@ -165,5 +166,5 @@ module _ (f : List ℕ → List ℕ) (g : List ℕ → List Row) (per : ℕ) whe
             answer =
                 go .answer
                 ∙ rw (next, flat-cons, ed, flat-append)
-                (sym (sets-run (flatMap rowBytes rs) _ a out (out + rowSize * n) (omega arith)));
+                (sym (sets-run (flatMap (rowBytes current) rs) _ a out (out + (rowSize current) * n) (omega arith)));
           })

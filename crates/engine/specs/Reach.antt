@@ -7,6 +7,7 @@ use lib.ListN.{take, getD}
 use Rattle.octets.specs.Turned.{turned}
 use Rattle.rules.specs.Lists.{oneOf}
 use Rattle.rules.specs.Identity.{trackingItem}
+use Rattle.rules.specs.Layout.{current}
 use Rattle.rules.specs.Table.{headOf, areasUsed, allAreas}
 use Rattle.rules.specs.Record.{Area, everywhere, inCells, inTrackingAreas, inEmergencyAreas, unknownArea, areaOf}
 use Rattle.rules.specs.Reach.{names}
@@ -35,9 +36,9 @@ turnedKeys n keys =
 -- by the area's kind, out of the bytes of a head: its NR CGI, its tracking area as an item, its emergency areas in use
 abbrev pub namingIn : Area → List ℕ → Naming
 namingIn everywhere b = turnedKeys 0 []
-namingIn inCells b = turnedKeys 1 (headOf b .identity ∷ [])
-namingIn inTrackingAreas b = turnedKeys 1 (trackingItem (headOf b .identity) (headOf b .code) ∷ [])
-namingIn inEmergencyAreas b = turnedKeys (areasUsed b) (allAreas b)
+namingIn inCells b = turnedKeys 1 (headOf current b .identity ∷ [])
+namingIn inTrackingAreas b = turnedKeys 1 (trackingItem (headOf current b .identity) (headOf current b .code) ∷ [])
+namingIn inEmergencyAreas b = turnedKeys (areasUsed current b) (allAreas current b)
 namingIn unknownArea b = turnedKeys 0 []
 
 unfoldable pub namingOf : ℕ → List ℕ → Naming
@@ -46,4 +47,4 @@ namingOf area b = namingIn (areaOf area) b
 pub record KeysOf (area : ℕ) (b : List ℕ) (s : Naming) : Type 0 where
   pub keys : s ≡ namingOf area b
   -- which follows
-  pub meant : (x : ℕ) → namedBy s x ≡ names area (headOf b) x
+  pub meant : (x : ℕ) → namedBy s x ≡ names area (headOf current b) x

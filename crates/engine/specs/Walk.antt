@@ -10,9 +10,10 @@ use Rattle.rules.specs.Layout.{current, headerSize, answerSize, rowSize, places
 use Rattle.rules.specs.Table.{cellOf, cellCount, cellRuns}
 use Rattle.rules.specs.Record.{writeReplace, oneSecond, requestOf, itemCount, itemsOf}
 use Rattle.rules.specs.InCell.{startsNothing}
-use Rattle.rules.specs.Answer.{Row, rowBytes}
+use Rattle.rules.specs.Answer.{rowBytes}
 use Rattle.rules.specs.Refusals.{applyVerdict}
-use Rattle.rules.specs.Applied.{cellAfter, cellRows, applied}
+use Rattle.rules.specs.Applied.{cellAfter, applied}
+use Rattle.rules.specs.Reply.{cellRows, Row}
 use Rattle.rules.specs.declared.Request.{Request}
 use Rattle.rules.specs.declared.Verdict.the-variants.{Accepted}
 use Rattle.in_cell.specs.Step.{ToStep}
@@ -42,7 +43,7 @@ pub record SecondIn (t : List ℕ) (cells : ℕ) (r a : List ℕ) : Type 0 where
 pub record WalkOut (t r : List ℕ) (q : Request) (a t′ a′ : List ℕ) (n : ℕ) : Type 0 where
   pub table : t′ ≡ tableAfter q (itemsOf r) t (cellRuns current t)
   pub rows : n ≡ length (rowsAfter q (itemsOf r) (cellRuns current t))
-  pub out : a′ ≡ sets a answerSize (flatMap rowBytes (rowsAfter q (itemsOf r) (cellRuns current t)))
+  pub out : a′ ≡ sets a (answerSize current) (flatMap (rowBytes current) (rowsAfter q (itemsOf r) (cellRuns current t)))
   pub few : n ≤ placesPerCell * mostCells
 
 -- a start that the zero rules stop
@@ -53,5 +54,5 @@ isIdle q = eqb (q .kind) writeReplace && startsNothing q
 pub record Granted (t r a t′ a′ : List ℕ) (n : ℕ) : Type 0 where
   pub table : t′ ≡ applied current t r a .table
   pub answer : a′ ≡ applied current t r a .answer
-  pub rows : answerSize + rowSize * n ≡ applied current t r a .length
+  pub rows : (answerSize current) + (rowSize current) * n ≡ applied current t r a .length
   pub few : n ≤ placesPerCell * mostCells

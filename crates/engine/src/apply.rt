@@ -4,27 +4,23 @@ ghost use Prim.Native.Nat.{_≤_};
 ghost use lib.ListN.{length};
 ghost use Rattle.rules.specs.Layout.{current, headerSize};
 ghost use Rattle.rules.specs.Table.{cellCount};
-ghost use Rattle.rules.specs.Record.{kindOf, unknownKind};
-ghost use Rattle.rules.specs.Answer.{roomFor};
 ghost use Rattle.rules.specs.Refusals.{applyVerdict};
 ghost use Rattle.rules.specs.Applied.{outcomeBy, applied};
 ghost use Rattle.engine.specs.Walk.{Granted, isIdle};
 ghost use Rattle.rules.specs.declared.Verdict.the-variants.{Accepted};
-use crate::head::put_head;
 use crate::walk::walk;
+use answer::length_with;
+use answer::put_head;
+use answer::room_for;
 use octets::get16;
-use record_read::read::count;
-use record_read::read::request;
+use record_read::count;
+use record_read::request;
 use rules::Refusal;
 use rules::Request;
 use rules::Verdict;
 use rules::Writing;
-use rules::kind::ONE_SECOND;
 use rules::kind::WRITE_REPLACE;
-use rules::layout::ANSWER;
 use rules::layout::CELLS_AT;
-use rules::layout::PLACES;
-use rules::layout::ROW;
 use start::new_bytes;
 use start::starts_nothing;
 
@@ -35,17 +31,6 @@ fn cells_of(table: &[u8]) -> usize
     get16(table, CELLS_AT) as usize
 }
 
-// Room for one row of each cell, or one for each place for a second.
-fn room_for(kind: u8, cells: usize) -> usize
-    requires { ⌜ (cells ≤ 65535) × (kindOf kind ≡ unknownKind → ⊥) ⌝ }
-    ensures { λ r. ⌜ r ≡ roomFor kind cells ⌝ }
-{
-    if kind == ONE_SECOND {
-        return ANSWER + ROW * PLACES * cells;
-    }
-    ANSWER + ROW * cells
-}
-
 // The first of the refusals 1 to 8 that applies.
 fn verdict(table: &[u8], req: &[u8], room: usize) -> Verdict
     ensures { λ r. ⌜ r ≡ applyVerdict current (now (table .entry)) (now (req .entry)) room ⌝ }
@@ -53,7 +38,7 @@ fn verdict(table: &[u8], req: &[u8], room: usize) -> Verdict
     if let Verdict::Refused(refusal) = table_judge::verdict(table) {
         return Verdict::Refused(refusal);
     }
-    if let Verdict::Refused(refusal) = record_read::read::verdict(req) {
+    if let Verdict::Refused(refusal) = record_read::verdict(req) {
         return Verdict::Refused(refusal);
     }
     let fields = request(req);
@@ -80,7 +65,7 @@ fn grant(table: &mut [u8], req: &[u8], answer: &mut [u8]) -> usize
 {
     let fields = request(req);
     if idle(fields) {
-        put_head(answer, fields, 0);
+        put_head(answer, fields.kind, fields.identifier, fields.serial, 0);
         return 0;
     }
     let new = new_bytes(fields);
@@ -93,7 +78,13 @@ fn grant(table: &mut [u8], req: &[u8], answer: &mut [u8]) -> usize
         &new,
         answer,
     );
-    put_head(answer, fields, rows as u16);
+    put_head(
+        answer,
+        fields.kind,
+        fields.identifier,
+        fields.serial,
+        rows as u16,
+    );
     rows
 }
 
@@ -104,5 +95,5 @@ pub fn apply(table: &mut [u8], req: &[u8], answer: &mut [u8]) -> Writing
         return Writing::Unwritten(refusal);
     }
     let rows = grant(table, req, answer);
-    Writing::Written(ANSWER + ROW * rows)
+    Writing::Written(length_with(rows))
 }

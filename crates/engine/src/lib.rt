@@ -1,5 +1,4 @@
 // One request applied to one table with one answer: one walk over cells and items for all kinds.
 pub mod apply;
-mod head;
 mod reach;
 mod walk;

@@ -42,7 +42,7 @@ fn keyed(keys: u8, first: u64, second: u64, third: u64, fourth: u64) -> Naming
 // Without an area, and for an unknown one, a cell has no key.
 pub fn naming_of(cell: &[u8], area: u8) -> Naming
     requires { ⌜ length (now cell) ≡ cellSize current ⌝ }
-    ensures { λ r. ⌜ KeysOf area (take headSize (now (cell .entry))) r ⌝ }
+    ensures { λ r. ⌜ KeysOf area (take (headSize current) (now (cell .entry))) r ⌝ }
 {
     if area == CELLS {
         let key = identity(cell);

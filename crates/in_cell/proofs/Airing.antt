@@ -10,14 +10,15 @@ use lib.Dec.{eqb}
 use lib.ListN.{take, set}
 use lib.Seq.{sets}
 use Rattle.rules.specs.Lists.{those}
-use Rattle.rules.specs.Layout.{headSize, rowSize}
+use Rattle.rules.specs.Layout.{current, headSize, rowSize}
 use Rattle.rules.specs.Table.{headOf, cellOf}
 use Rattle.rules.specs.InCell.{oneMore, oneLess, withCounts, later, hasEnded}
-use Rattle.rules.specs.Answer.{Row, rowBytes}
+use Rattle.rules.specs.Answer.{rowBytes}
+use Rattle.rules.specs.Reply.{Row}
 use Rattle.rules.specs.declared.Seconds.{Seconds}
 use Rattle.rules.specs.declared.Broadcasts.{Broadcasts}
 use Rattle.rules.specs.declared.Place.{Place}
-use Rattle.rules.proofs.ListsLaws.{by-test}
+use Rattle.rules.proofs.TestLaws.{by-test}
 use Rattle.rules.proofs.SecondLaws.{later-due}
 use Rattle.cell_read.specs.Places.{livePlaces, withPlaces, placeAt}
 use Rattle.in_cell.specs.Second.{endings, ToAir, Aired}
@@ -36,9 +37,9 @@ row-same i s t a b d = rw (a, b, d)
 
 -- what was read of place k and of the head, and what was made of it
 module _ (c out : List ℕ) (k n : ℕ) (to : ToAir c out k n) (sent : Broadcasts) (wait : Seconds) (requested identity content : ℕ) (e-sent : sent .0 ≡ oneMore (placeAt c k .sent) .0) (e-wait : wait .0 ≡ oneLess (placeAt c k .period) .0)
-    (e-requested : requested ≡ placeAt c k .requested .0) (e-identity : identity ≡ headOf (take headSize c) .identity) (e-content : content ≡ placeAt c k .content)
+    (e-requested : requested ≡ placeAt c k .requested .0) (e-identity : identity ≡ headOf current (take (headSize current) c) .identity) (e-content : content ≡ placeAt c k .content)
     (c′ out′ : List ℕ) (e-cell : c′ ≡ withPlaces c (set (livePlaces c) k (withCounts (placeAt c k) sent wait)))
-    (e-out : out′ ≡ sets out (rowSize * n) (rowBytes (record { identity = identity; count = sent .0; content = content }))) where
+    (e-out : out′ ≡ sets out ((rowSize current) * n) (rowBytes current (record { identity = identity; count = sent .0; content = content }))) where
   after : later (placeAt c k) ≡ withCounts (placeAt c k) sent wait
   after =
       later-due (placeAt c k) (to .due)
@@ -58,7 +59,7 @@ module _ (c out : List ℕ) (k n : ℕ) (to : ToAir c out k n) (sent : Broadcast
   aired last e-last =
       record {
         cell = e-cell ∙ rw after;
-        row = e-out ∙ ap (λ (w : Row). sets out (rowSize * n) (rowBytes w)) (row-same identity (sent .0) content e-identity after-sent e-content);
+        row = e-out ∙ ap (λ (w : Row). sets out ((rowSize current) * n) (rowBytes current w)) (row-same identity (sent .0) content e-identity after-sent e-content);
         ended = rw (e-last, ← after-ends) (sym (endings-one (later (placeAt c k))));
         one = byte-one last;
       }

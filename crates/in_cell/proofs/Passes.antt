@@ -14,12 +14,13 @@ use Rattle.rules.specs.Layout.{current, placeFields, placesPerCell}
 use Rattle.rules.specs.Table.{placeNumbers, legalPlace, placeRuns}
 use Rattle.rules.specs.InCell.{isDue, later, withCounts, hasEnded, staysLive, second}
 use Rattle.rules.specs.declared.Place.{Place}
-use Rattle.rules.proofs.ListsLaws.{both, by-test}
+use Rattle.rules.proofs.TestLaws.{both, by-test}
 use Rattle.rules.proofs.PlaceLaws.{legal-facts}
 use Rattle.rules.proofs.SoundPlaceLaws.{fits-at}
 use Rattle.rules.proofs.SecondLaws.{oneMore-most, later-due, later-waits}
 use Rattle.rules.proofs.AllLaws.{All, all-imply, all-map}
-use Rattle.rules.proofs.PlaceCodec.{FitPlace, legal-places}
+use Rattle.rules.proofs.PlaceCodec.{FitPlace}
+use Rattle.rules.proofs.PlacesCodec.{legal-places}
 use Rattle.rules.proofs.CellCodec.{legal-cell}
 use Rattle.cell_read.specs.Places.{livePlaces, withPlaces, Formed}
 use Rattle.cell_read.proofs.PlacesLaws.{withPlaces-again, withPlaces-live, withPlaces-formed, live-few, live-fit, fit-counts}

@@ -12,8 +12,7 @@ use lib.Seq.{set-at, take-at, drop-at, getD-at, drop-drop}
 use Rattle.octets.specs.Runs.{Bytes}
 use Rattle.rules.specs.Layout.{current, headSize, placesPerCell, cellSize}
 use Rattle.rules.specs.declared.Place.{Place}
-use Rattle.rules.proofs.AllLaws.{All, none, more}
-use Rattle.rules.proofs.JoinedLaws.{all-append}
+use Rattle.rules.proofs.AllLaws.{All, none, more, all-append}
 use Rattle.rules.proofs.PlaceCodec.{FitPlace}
 use Rattle.cell_read.specs.Places.{livePlaces, withPlaces, Formed, noPlace, placeAt, without}
 use Rattle.cell_read.proofs.PlacesLaws.{head-withPlaces, withPlaces-again, withPlaces-live, withPlaces-formed, live-few, live-fit}
@@ -57,8 +56,8 @@ module _ {c₀ c : List ℕ} {k : ℕ} {passed rest : List Place} (w : Passing c
   pub pass-many : length (livePlaces c) ≡ k + length rest
   pass-many = ap length pass-live ∙ many
 
-  pub pass-head : take headSize c ≡ take headSize c₀
-  pass-head = ap (take headSize) (w .cell) ∙ head-withPlaces c₀ (w .size) (passed ++ rest)
+  pub pass-head : take (headSize current) c ≡ take (headSize current) c₀
+  pass-head = ap (take (headSize current)) (w .cell) ∙ head-withPlaces c₀ (w .size) (passed ++ rest)
 
   pass-again : (qs : List Place) → withPlaces c qs ≡ withPlaces c₀ qs
   pass-again qs = ap (λ (l : List ℕ). withPlaces l qs) (w .cell) ∙ withPlaces-again c₀ (w .size) (passed ++ rest) qs

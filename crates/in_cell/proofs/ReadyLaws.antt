@@ -8,7 +8,7 @@ use Rattle.octets.specs.Runs.{Bytes}
 use Rattle.rules.specs.Layout.{current, placeFields}
 use Rattle.rules.specs.Table.{placeNumbers, placeRuns, different}
 use Rattle.rules.proofs.AllLaws.{All, all-imply}
-use Rattle.rules.proofs.PlaceCodec.{legal-places}
+use Rattle.rules.proofs.PlacesCodec.{legal-places}
 use Rattle.rules.proofs.CellCodec.{legal-cell}
 use Rattle.rules.proofs.SoundPlaceLaws.{fits-at}
 use Rattle.cell_read.specs.Places.{livePlaces, Formed}

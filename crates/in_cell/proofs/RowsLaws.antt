@@ -10,29 +10,18 @@ use Rattle.octets.specs.Numbers.{toBe}
 use Rattle.octets.specs.Fields.{bytesOf}
 use Rattle.octets.proofs.RunsLaws.{sets-run}
 use Rattle.octets.proofs.NumbersLaws.{length-toBe}
-use Rattle.rules.specs.Layout.{headSize}
+use Rattle.rules.specs.Layout.{current, headSize}
 use Rattle.rules.specs.Table.{headOf, cellOf}
 use Rattle.rules.specs.InCell.{Done, done, reported}
-use Rattle.rules.specs.Answer.{Row, rowBytes}
+use Rattle.rules.specs.Answer.{rowBytes}
+use Rattle.rules.specs.Reply.{Row}
 use Rattle.rules.specs.declared.Place.{Place}
 use Rattle.cell_read.specs.Places.{livePlaces, withPlaces, Formed}
 use Rattle.in_cell.specs.Step.{rowsBytes, Stepped}
 
 -- ---- bytes
 
-pub row-stored : (l : List ℕ) (at : ℕ) (w : Row) (a b d : List ℕ) → a ≡ sets l at (toBe 8 (w .identity)) → b ≡ sets a (at + 8) (toBe 2 (w .count)) → d ≡ sets b (at + 10) (toBe 4 (w .content))
-    → d ≡ sets l at (rowBytes w)
-unfolding rowBytes bytesOf
-row-stored l at w a b d ea eb ed =
-    let first : List ℕ = toBe 8 (w .identity) in
-    let second : List ℕ = toBe 2 (w .count) in
-    let n : length first ≡ 8 = length-toBe 8 (w .identity) in
-    let m : length (first ++ second) ≡ 10 = rw (length-append, n, length-toBe 2 (w .count)) in
-    ed
-    ∙ rw (eb, ea, append-nil, sets-run first second l at (at + 8) (omega arith), ← append-assoc)
-    (sets-run (first ++ second) (toBe 4 (w .content)) l at (at + 10) (omega arith))
-
-pub one-row : (c : List ℕ) (n : ℕ) → rowsBytes c (reported n) ≡ rowBytes (record { identity = headOf (take headSize c) .identity; count = n; content = 0 })
+pub one-row : (c : List ℕ) (n : ℕ) → rowsBytes c (reported n) ≡ rowBytes current (record { identity = headOf current (take (headSize current) c) .identity; count = n; content = 0 })
 unfolding rowsBytes cellOf flatMap
 one-row c n = append-nil _
 

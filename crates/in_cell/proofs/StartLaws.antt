@@ -1,9 +1,9 @@
 -- What a Write-Replace does in a cell, said by the search for its text: found, and nothing changes; else the new place alone, or behind the others, or nowhere in a full cell.
 -- By the tests of the rule, in order; the place found tells that the text runs, and the place not found is the first free one.
-use mathlib.Core.Path.{_≡_, sym, _∙_}
+use mathlib.Core.Path.{_≡_, sym, ap, _∙_}
 use mathlib.Core.Bool.{Bool, true, false}
 use mathlib.Core.List.{List, [], _∷_, _++_}
-use Prim.Native.Nat.{ℕ, _+_, _*_, _<_, _≤_}
+use Prim.Native.Nat.{ℕ, _<_, _≤_}
 use native.Mathlib.Omega.{arith}
 use borrow.Author.Tests.{ltb-false, lt-ltb, le-ltb}
 use lib.Dec.{ltb}
@@ -12,12 +12,13 @@ use lib.Seq.{sets}
 use Rattle.octets.specs.Runs.{Bytes}
 use Rattle.rules.specs.Layout.{current, placesPerCell}
 use Rattle.rules.specs.Table.{placeOf, running}
-use Rattle.rules.specs.Record.{concurrent}
+use Rattle.rules.specs.Record.{concurrent, textAsked}
 use Rattle.rules.specs.InCell.{done, reported, startsNothing, newPlace, start}
 use Rattle.rules.specs.declared.Place.{Place}
 use Rattle.rules.specs.declared.Request.{Request}
 use Rattle.rules.proofs.AllLaws.{none}
-use Rattle.rules.proofs.PlaceCodec.{FitPlace, sound-place, length-placeBytes, place-again, place-live}
+use Rattle.rules.proofs.PlaceCodec.{FitPlace, length-placeBytes, place-again, place-live}
+use Rattle.rules.proofs.PlacesCodec.{sound-place}
 use Rattle.cell_read.specs.Places.{livePlaces, withPlaces, Formed, FreeAt, OnePlace, indexOf}
 use Rattle.cell_read.proofs.PlacesLaws.{withPlaces-live, withPlaces-formed, withPlaces-again}
 use Rattle.in_cell.specs.Step.{rowsBytes, Ready, Stepped, StartIn}
@@ -66,13 +67,20 @@ pub record Begun (c out new : List ℕ) (q : Request) (at : ℕ) (found : Bool) 
   pub input : StartIn q new
   pub bytes : Bytes c
   pub small : q .serial < 65536
-  pub place : at ≡ indexOf (q .identifier * 65536 + q .serial) (livePlaces c)
+  pub place : at ≡ indexOf (textAsked q) (livePlaces c)
   pub hit : found ≡ ltb at (length (livePlaces c))
 
-pub begun : (c out new : List ℕ) (q : Request) → Ready c out 1 × StartIn q new → Bytes c → q .serial < 65536 → {at : ℕ} {found : Bool}
-    → (at ≡ indexOf (q .identifier * 65536 + q .serial) (livePlaces c)) × (found ≡ ltb at (length (livePlaces c))) → Begun c out new q at found
-begun c out new q asked bytes small sought =
-    record { ready = asked .0; input = asked .1; bytes = bytes; small = small; place = sought .0; hit = sought .1 }
+pub begun : (c out new : List ℕ) (q : Request) → Ready c out 1 × StartIn q new → Bytes c → q .serial < 65536 → {text at : ℕ} {found : Bool}
+    → text ≡ textAsked q → (at ≡ indexOf text (livePlaces c)) × (found ≡ ltb at (length (livePlaces c))) → Begun c out new q at found
+begun c out new q asked bytes small e sought =
+    record {
+      ready = asked .0;
+      input = asked .1;
+      bytes = bytes;
+      small = small;
+      place = sought .0 ∙ ap (λ (text : ℕ). indexOf text (livePlaces c)) e;
+      hit = sought .1;
+    }
 
 module _ {c out new : List ℕ} {q : Request} {at : ℕ} {found : Bool} (b : Begun c out new q at found) where
   formed : Formed c
@@ -93,7 +101,7 @@ module _ {c out new : List ℕ} {q : Request} {at : ℕ} {found : Bool} (b : Beg
 
     first : at ≡ length (livePlaces c)
     first =
-        let most : at ≤ length (livePlaces c) = rw (b .place) (index-most (q .identifier * 65536 + q .serial) (livePlaces c)) in
+        let most : at ≤ length (livePlaces c) = rw (b .place) (index-most (textAsked q) (livePlaces c)) in
         omega (arith, ltb-false at (length (livePlaces c)) (sym (b .hit) ∙ n))
 
     pub free-here : at < placesPerCell → FreeAt c at

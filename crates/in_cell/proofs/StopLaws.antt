@@ -3,18 +3,19 @@
 use mathlib.Core.Path.{_≡_, refl, sym, _∙_}
 use mathlib.Core.Bool.{Bool, true, false, false≢true}
 use mathlib.Core.List.{List, [], _∷_}
-use Prim.Native.Nat.{ℕ, suc, _+_, _*_, _<_}
+use Prim.Native.Nat.{ℕ, suc, _<_}
 use native.Mathlib.Omega.{arith}
 use borrow.Author.Tests.{ltb-true, ltb-false}
 use lib.Dec.{ltb}
 use lib.ListN.{length, getD}
 use lib.Seq.{sets}
 use Rattle.rules.specs.Table.{isText, running, different}
-use Rattle.rules.specs.Record.{cancelAll}
+use Rattle.rules.specs.Record.{cancelAll, textAsked}
 use Rattle.rules.specs.InCell.{done, reported, reportedIfLive, cancel, failure}
 use Rattle.rules.specs.declared.Place.{Place}
 use Rattle.rules.specs.declared.Request.{Request}
-use Rattle.rules.proofs.ListsLaws.{by-test, all-those, none-made}
+use Rattle.rules.proofs.ListsLaws.{all-those, none-made}
+use Rattle.rules.proofs.TestLaws.{by-test}
 use Rattle.rules.proofs.AllLaws.{All}
 use Rattle.cell_read.specs.Places.{livePlaces, withPlaces, Formed, noPlace, placeAt, LiveAt, indexOf, without}
 use Rattle.cell_read.proofs.PlacesLaws.{live-at}
@@ -40,10 +41,10 @@ module _ (q : Request) (ps : List Place) where
   unfolding cancel failure
   cancel-every a = rw a
 
-  pub cancel-one : cancelAll q ≡ false → q .serial < 65536 → All Small ps → different ps ≡ true → cancel q ps ≡ stopText (q .identifier * 65536 + q .serial) ps
+  pub cancel-one : cancelAll q ≡ false → q .serial < 65536 → All Small ps → different ps ≡ true → cancel q ps ≡ stopText (textAsked q) ps
   unfolding cancel running
   cancel-one a small each apart =
-      let text : ℕ = q .identifier * 65536 + q .serial in
+      let text : ℕ = textAsked q in
       let meets : ltb (indexOf text ps) (length ps) ≡ running (q .identifier) (q .serial) ps = index-running (q .identifier) (q .serial) small each in
       rw a
       (by-test (running (q .identifier) (q .serial) ps)

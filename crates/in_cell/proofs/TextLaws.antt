@@ -13,7 +13,8 @@ use Rattle.rules.specs.Lists.{any, those}
 use Rattle.rules.specs.Table.{isText, running, different}
 use Rattle.rules.specs.InCell.{Told}
 use Rattle.rules.specs.declared.Place.{Place}
-use Rattle.rules.proofs.ListsLaws.{by-test, or-else, all-those, none-made}
+use Rattle.rules.proofs.ListsLaws.{all-those, none-made}
+use Rattle.rules.proofs.TestLaws.{by-test, or-else}
 use Rattle.rules.proofs.AllLaws.{All, none, more}
 use Rattle.rules.proofs.PlaceLaws.{text-facts, facts-text, different-parts}
 use Rattle.cell_read.specs.Places.{noPlace, textOf, indexOf, without}

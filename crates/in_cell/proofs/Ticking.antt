@@ -15,13 +15,13 @@ use Rattle.rules.specs.Layout.{current, placesPerCell, rowSize}
 use Rattle.rules.specs.Table.{legalPlace, cellOf, placeRuns}
 use Rattle.rules.specs.InCell.{Told, isDue, oneLess, later, withCounts, hasEnded, second}
 use Rattle.rules.specs.Answer.{rowBytes}
-use Rattle.rules.specs.Applied.{rowOf}
+use Rattle.rules.specs.Reply.{rowBy}
 use Rattle.rules.specs.declared.Seconds.{Seconds}
 use Rattle.rules.specs.declared.Place.{Place}
-use Rattle.rules.proofs.ListsLaws.{both}
+use Rattle.rules.proofs.TestLaws.{both}
 use Rattle.rules.proofs.SecondLaws.{later-waits}
-use Rattle.rules.proofs.AppliedLaws.{length-rowBytes}
-use Rattle.rules.proofs.PlaceCodec.{legal-places}
+use Rattle.rules.proofs.RowCodec.{length-rowBytes}
+use Rattle.rules.proofs.PlacesCodec.{legal-places}
 use Rattle.rules.proofs.CellCodec.{legal-cell}
 use Rattle.cell_read.specs.Places.{livePlaces, withPlaces, Formed, placeAt, LiveAt}
 use Rattle.cell_read.proofs.PlacesLaws.{formed-legal, live-at}
@@ -49,7 +49,7 @@ module _ (p : Place) (ps : List Place) where
   unfolding endings those flatMap
   endings-none e = rw e
 
-rows-cons : (c : List ℕ) (x : Told) (xs : List Told) → rowsBytes c (x ∷ xs) ≡ rowBytes (rowOf (cellOf current c) x) ++ rowsBytes c xs
+rows-cons : (c : List ℕ) (x : Told) (xs : List Told) → rowsBytes c (x ∷ xs) ≡ rowBytes current (rowBy (cellOf current c) x) ++ rowsBytes c xs
 unfolding rowsBytes flatMap
 rows-cons c x xs = refl
 
@@ -62,11 +62,11 @@ pub record Ticks (c₀ o₀ c o : List ℕ) (k n gone : ℕ) (passed rest : List
   pub few : k ≤ placesPerCell
   pub few-rows : n ≤ k
   pub few-gone : gone ≤ k
-  pub room : rowSize * placesPerCell ≤ length o
+  pub room : (rowSize current) * placesPerCell ≤ length o
   pub same : length o ≡ length o₀
   pub places : map later (livePlaces c₀) ≡ passed ++ map later rest
   pub rows : length (second (livePlaces c₀) .rows) ≡ n + length (second rest .rows)
-  pub answer : sets o₀ 0 (rowsBytes c₀ (second (livePlaces c₀) .rows)) ≡ sets o (rowSize * n) (rowsBytes c₀ (second rest .rows))
+  pub answer : sets o₀ 0 (rowsBytes c₀ (second (livePlaces c₀) .rows)) ≡ sets o ((rowSize current) * n) (rowsBytes c₀ (second rest .rows))
   pub ended : endings (map later (livePlaces c₀)) ≡ gone + endings (map later rest)
 
 pub record Ticking (c₀ o₀ c o : List ℕ) (k n gone : ℕ) : Type 0 where
@@ -105,7 +105,7 @@ module _ {c₀ o₀ c o : List ℕ} {k n gone : ℕ} {passed rest : List Place} 
   -- whether it is broadcast, and the last time, or not
   turn : (r e n′ gone′ : ℕ) (c′ o′ : List ℕ) → n′ ≡ n + r → gone′ ≡ gone + e → r ≤ 1 → e ≤ 1 → c′ ≡ withPlaces c (set (livePlaces c) k (later p)) → length o′ ≡ length o
       → length (second (p ∷ rest) .rows) ≡ r + length (second rest .rows)
-      → sets o (rowSize * n) (rowsBytes c₀ (second (p ∷ rest) .rows)) ≡ sets o′ (rowSize * n′) (rowsBytes c₀ (second rest .rows))
+      → sets o ((rowSize current) * n) (rowsBytes c₀ (second (p ∷ rest) .rows)) ≡ sets o′ ((rowSize current) * n′) (rowsBytes c₀ (second rest .rows))
       → endings (map later (p ∷ rest)) ≡ e + endings (map later rest)
       → Ticking c₀ o₀ c′ o′ (k + 1) n′ gone′
   turn r e n′ gone′ c′ o′ en eg r-one e-one ec same′ er ea ee =
@@ -129,18 +129,18 @@ module _ {c₀ o₀ c o : List ℕ} {k n gone : ℕ} {passed rest : List Place} 
       turn 0 0 n gone c′ o (omega arith) (omega arith) (omega arith) (omega arith) ec refl (rw (told-waits p rest d) (omega arith)) (rw (told-waits p rest d))
       (rw (endings-none (later p) (map later rest) (waits-goes-on p (next-legal .0) d)) (omega arith))
 
-  same-row : rowOf (cellOf current c) (toldOf p) ≡ rowOf (cellOf current c₀) (toldOf p)
+  same-row : rowBy (cellOf current c) (toldOf p) ≡ rowBy (cellOf current c₀) (toldOf p)
   unfolding cellOf
   same-row = rw (pass-head (t .pass))
 
   turn-airs : isDue p ≡ true → (c′ o′ : List ℕ) (r : ℕ) → r ≤ 1 → c′ ≡ withPlaces c (set (livePlaces c) k (later p))
-      → o′ ≡ sets o (rowSize * n) (rowBytes (rowOf (cellOf current c) (toldOf p))) → r ≡ endings (later p ∷ []) → Ticking c₀ o₀ c′ o′ (k + 1) (n + 1) (gone + r)
+      → o′ ≡ sets o ((rowSize current) * n) (rowBytes current (rowBy (cellOf current c) (toldOf p))) → r ≡ endings (later p ∷ []) → Ticking c₀ o₀ c′ o′ (k + 1) (n + 1) (gone + r)
   turn-airs d c′ o′ r one ec eo er =
-      let row : List ℕ = rowBytes (rowOf (cellOf current c₀) (toldOf p)) in
-      let long : length row ≡ rowSize = length-rowBytes (rowOf (cellOf current c₀) (toldOf p)) in
-      let e : o′ ≡ sets o (rowSize * n) row = eo ∙ rw same-row in
-      turn 1 r (n + 1) (gone + r) c′ o′ refl refl (omega arith) one ec (ap length e ∙ length-sets o (rowSize * n) row) (rw (told-due p rest d) (omega arith))
-      (rw (told-due p rest d, rows-cons, e) (sym (sets-run row (rowsBytes c₀ (second rest .rows)) o (rowSize * n) (rowSize * (n + 1)) (omega arith))))
+      let row : List ℕ = rowBytes current (rowBy (cellOf current c₀) (toldOf p)) in
+      let long : length row ≡ (rowSize current) = length-rowBytes current (rowBy (cellOf current c₀) (toldOf p)) in
+      let e : o′ ≡ sets o ((rowSize current) * n) row = eo ∙ rw same-row in
+      turn 1 r (n + 1) (gone + r) c′ o′ refl refl (omega arith) one ec (ap length e ∙ length-sets o ((rowSize current) * n) row) (rw (told-due p rest d) (omega arith))
+      (rw (told-due p rest d, rows-cons, e) (sym (sets-run row (rowsBytes c₀ (second rest .rows)) o ((rowSize current) * n) ((rowSize current) * (n + 1)) (omega arith))))
       (endings-cons (later p) (map later rest) ∙ rw er)
 
 -- ---- the turns of the pass

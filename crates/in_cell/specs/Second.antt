@@ -10,7 +10,7 @@ use Rattle.rules.specs.Layout.{current, placesPerCell, rowSize}
 use Rattle.rules.specs.Table.{cellOf}
 use Rattle.rules.specs.InCell.{Told, isDue, later, hasEnded, second}
 use Rattle.rules.specs.Answer.{rowBytes}
-use Rattle.rules.specs.Applied.{rowOf}
+use Rattle.rules.specs.Reply.{rowBy}
 use Rattle.rules.specs.declared.Place.{Place}
 use Rattle.cell_read.specs.Places.{livePlaces, withPlaces, placeAt, LiveAt}
 use Rattle.in_cell.specs.Step.{rowsBytes}
@@ -32,12 +32,12 @@ pub record ToAir (c out : List ℕ) (k n : ℕ) : Type 0 where
   pub at : LiveAt c k
   pub due : isDue (placeAt c k) ≡ true
   pub few : n < placesPerCell
-  pub room : rowSize * n + rowSize ≤ length out
+  pub room : (rowSize current) * n + (rowSize current) ≤ length out
 
 -- place k was broadcast, row n says so, and r is 1 if that was the last time
 pub record Aired (c out : List ℕ) (k n : ℕ) (c′ out′ : List ℕ) (r : ℕ) : Type 0 where
   pub cell : c′ ≡ withPlaces c (set (livePlaces c) k (later (placeAt c k)))
-  pub row : out′ ≡ sets out (rowSize * n) (rowBytes (rowOf (cellOf current c) (toldOf (placeAt c k))))
+  pub row : out′ ≡ sets out ((rowSize current) * n) (rowBytes current (rowBy (cellOf current c) (toldOf (placeAt c k))))
   pub ended : r ≡ endings (later (placeAt c k) ∷ [])
   pub one : r ≤ 1
 

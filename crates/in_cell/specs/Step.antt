@@ -10,20 +10,20 @@ use Rattle.rules.specs.Table.{placeBytes, cellOf, legalCell}
 use Rattle.rules.specs.Record.{writeReplace, kindAllows}
 use Rattle.rules.specs.InCell.{Told, Done, startsNothing, newPlace}
 use Rattle.rules.specs.Answer.{rowBytes}
-use Rattle.rules.specs.Applied.{rowOf}
+use Rattle.rules.specs.Reply.{rowBy}
 use Rattle.rules.specs.Sound.{soundPlace}
 use Rattle.rules.specs.declared.Request.{Request}
 use Rattle.cell_read.specs.Places.{withPlaces}
 
 -- the bytes of the rows that a cell reports
 unfoldable pub rowsBytes : List ℕ → List Told → List ℕ
-rowsBytes c told = flatMap rowBytes (map (rowOf (cellOf current c)) told)
+rowsBytes c told = flatMap (rowBytes current) (map (rowBy (cellOf current c)) told)
 
 -- a legal cell, and room for so many rows
 pub record Ready (c out : List ℕ) (most : ℕ) : Type 0 where
   pub size : length c ≡ cellSize current
   pub legal : legalCell current c ≡ true
-  pub room : rowSize * most ≤ length out
+  pub room : (rowSize current) * most ≤ length out
 
 -- the cell has the places that the rule gives, and the rows stand at the start of the room for them
 pub record Stepped (d : Done) (c out c′ out′ : List ℕ) (most n : ℕ) : Type 0 where

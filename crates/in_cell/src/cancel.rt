@@ -7,7 +7,6 @@ use cell_read::seek;
 use cell_read::sent;
 use rules::Broadcasts;
 use rules::Request;
-use rules::kind::CANCEL_ALL;
 ghost use Rattle.rules.specs.InCell.{cancel, restart, failure};
 ghost use Rattle.cell_read.specs.Places.{livePlaces};
 ghost use Rattle.in_cell.specs.Step.{Ready, Stepped};
@@ -56,12 +55,8 @@ pub fn cancel_in_cell(cell: &mut [u8], request: Request, out: &mut [u8]) -> usiz
     requires { ⌜ Ready (now cell) (now out) 1 ⌝ }
     ensures { λ r. ⌜ Stepped (cancel request (livePlaces (now (cell .entry)))) (now (cell .entry)) (now (out .entry)) (now (cell .exit)) (now (out .exit)) 1 r ⌝ }
 {
-    if request.flags / CANCEL_ALL % 2 == 1 {
+    if request.cancels_all() {
         return failure_in_cell(cell, out);
     }
-    cancel_text(
-        cell,
-        (request.identifier as u32) * 65536 + (request.serial as u32),
-        out,
-    )
+    cancel_text(cell, request.text(), out)
 }

@@ -16,16 +16,13 @@ pub fn start_in_cell(cell: &mut [u8], request: Request, new: &[u8], out: &mut [u
     requires { ⌜ StartIn request (now new) ⌝ }
     ensures { λ r. ⌜ Stepped (start request (livePlaces (now (cell .entry)))) (now (cell .entry)) (now (out .entry)) (now (cell .exit)) (now (out .exit)) 1 r ⌝ }
 {
-    let sought = seek(
-        cell,
-        (request.identifier as u32) * 65536 + (request.serial as u32),
-    );
+    let sought = seek(cell, request.text());
     let at = sought.at;
     if sought.found {
         report(cell, Broadcasts(0), out);
         return 1;
     }
-    if request.flags % 2 != 1 {
+    if !request.concurrent() {
         report(cell, Broadcasts(0), out);
         free_all(cell);
         add_place(cell, 0, new);

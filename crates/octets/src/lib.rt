@@ -24,6 +24,11 @@ ghost use Rattle.octets.specs.Numbers.{be, toBe};
 ghost use Rattle.octets.specs.Joined.{joined};
 ghost use Rattle.octets.specs.Turned.{turned};
 
+// What one number of 32 bits takes, and one of 64.
+pub const BYTES_32: usize = 4;
+
+pub const BYTES_64: usize = 8;
+
 // Reads: the number that the bytes at an index say.
 pub fn get8(s: &[u8], at: usize) -> u8
     requires { ⌜ at + 1 ≤ length (now s) ⌝ }

@@ -69,7 +69,7 @@ pub extern "C" fn pws_apply(table: &mut [u8], req: &[u8], answer: &mut [u8]) -> 
 pub extern "C" fn pws_read(req: &[u8]) -> PwsReading
     ensures { λ r. ⌜ ReadPromise (now (req .entry)) r ⌝ }
 {
-    match record_read::read::read(req) {
+    match record_read::read(req) {
         Reading::Fields(request, items) => PwsReading {
             number: 0,
             request,
@@ -94,7 +94,7 @@ pub extern "C" fn pws_write(request: Request, items: &[u64], buffer: &mut [u8]) 
 pub extern "C" fn pws_item(req: &[u8], k: usize) -> u64
     ensures { λ r. ⌜ ItemPromise (now (req .entry)) k r ⌝ }
 {
-    record_read::read::item(req, k)
+    record_read::item(req, k)
 }
 
 #[no_mangle]

@@ -18,9 +18,9 @@ use Rattle.rules.specs.Record.{itemCount, itemsOf}
 use Rattle.rules.specs.Refusals.{recordVerdict}
 use Rattle.rules.specs.Applied.{itemAt}
 use Rattle.rules.specs.declared.Verdict.the-variants.{Accepted}
-use Rattle.rules.proofs.ListsLaws.{by-test}
+use Rattle.rules.proofs.TestLaws.{by-test}
 use Rattle.rules.proofs.RecordCodec.{length-itemsOf}
-use Rattle.rules.proofs.RecordTrips.{record-accepted}
+use Rattle.rules.proofs.AcceptedRecordLaws.{record-accepted}
 
 -- ---- any bytes
 

@@ -1,9 +1,9 @@
 -- What the reader finds in bytes is what the rules say of them: fields at their offsets, items one after the other, and the order of 3 to 7.
 -- By the law of fields, by one item at a time, and by the tests that decide.
 use mathlib.Core.Path.{_≡_, refl, sym, _∙_}
-use mathlib.Core.Bool.{Bool, true, false, not, _&&_, _||_, and-assoc, and-true}
+use mathlib.Core.Bool.{Bool, true, false, not, _&&_, _||_, and-assoc, and-true, and-false}
 use mathlib.Core.List.{List, [], _∷_, map}
-use Prim.Native.Nat.{ℕ, _+_, _*_, _≤_, _<_}
+use Prim.Native.Nat.{ℕ, zero, suc, _+_, _*_, _≤_, _<_}
 use native.Mathlib.Omega.{arith}
 use lib.Dec.{eqb, leb}
 use lib.ListN.{length, drop, getD, length-map}
@@ -24,12 +24,11 @@ use Rattle.rules.specs.declared.Refusal.{Refusal}
 use Rattle.rules.specs.declared.Refusal.the-variants.{RecordMark, RecordLength, RecordFields}
 use Rattle.rules.specs.declared.Verdict.{Verdict}
 use Rattle.rules.specs.declared.Verdict.the-variants.{Accepted, Refused}
-use Rattle.rules.proofs.ListsLaws.{both}
+use Rattle.rules.proofs.TestLaws.{both}
 use Rattle.rules.proofs.LayoutLaws.{record-size}
-use Rattle.rules.proofs.ZerosLaws.{be-zero, zeros-run}
+use Rattle.rules.proofs.ZerosLaws.{zeros-none, zeros-more, zeros-unless, be-zero, zeros-run}
 use Rattle.rules.specs.Lists.{every, zeros}
-use Rattle.record_read.proofs.JudgeLaws.{zeros-none, zeros-more, zeros-unless}
-use Rattle.rules.proofs.RecordTrips.{record-accepted}
+use Rattle.rules.proofs.AcceptedRecordLaws.{record-accepted}
 
 -- ---- fields
 
@@ -43,6 +42,13 @@ and-either : (a p q : Bool) → a && (p || q) ≡ a && p || a && q
 and-either true p q = refl
 and-either false p q = refl
 
+-- the versions that are taken today are 1 and 2
+either-taken : (n : ℕ) → takesVersion current n ≡ (eqb n 1 || eqb n 2)
+either-taken zero = refl
+either-taken (suc zero) = refl
+either-taken (suc (suc zero)) = refl
+either-taken (suc (suc (suc n))) = rw (lt-leb (suc (suc (suc n))) 2 (omega arith), ne-eqb (suc (suc (suc n))) 1 (λ e. omega (arith, e)), ne-eqb (suc (suc (suc n))) 2 (λ e. omega (arith, e)), and-false)
+
 -- the mark with the version's upper byte, then its lower byte: 1 or 2
 pub mark-taken : (r : List ℕ) → Bytes r → recordSize ≤ length r
     → eqb (be (gets r 0 4)) (recordMark * 256) && (eqb (be (gets r 4 1)) 1 || eqb (be (gets r 4 1)) 2) ≡ recordMarked current r
@@ -51,7 +57,7 @@ mark-taken r b h =
     let mark = eqb (be (gets r 0 3)) recordMark in
     let version : ℕ = be (gets r 3 2) in
     and-either (eqb (be (gets r 0 4)) (recordMark * 256)) (eqb (be (gets r 4 1)) 1) (eqb (be (gets r 4 1)) 2)
-    ∙ rw (mark-and-version r b recordMark 1 (omega arith), mark-and-version r b recordMark 2 (omega arith), le-leb _ _ h, record-field r h 0, record-field r h 1)
+    ∙ rw (mark-and-version r b recordMark 1 (omega arith), mark-and-version r b recordMark 2 (omega arith), le-leb _ _ h, record-field r h 0, record-field r h 1, either-taken (be (gets r 3 2)))
     (sym (and-either mark (eqb version 1) (eqb version 2)))
 
 -- ---- items

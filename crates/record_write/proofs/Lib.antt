@@ -1,4 +1,4 @@
-mod JudgeLaws
+mod BitsLaws
 mod WriteLaws
 pub mod Trips
 pub mod Once

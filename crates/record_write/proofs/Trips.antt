@@ -22,7 +22,7 @@ use Rattle.rules.specs.declared.Verdict.the-variants.{Accepted}
 use Rattle.rules.proofs.OnceLaws.{writing-injective, reading-injective}
 use Rattle.rules.proofs.OutcomeLaws.{read-accepted}
 use Rattle.rules.proofs.RecordCodec.{length-itemsOf}
-use Rattle.rules.proofs.RecordTrips.{record-accepted}
+use Rattle.rules.proofs.AcceptedRecordLaws.{record-accepted}
 use Rattle.rules.proofs.RenewedLaws.{renewed-same}
 use Rattle.rules.proofs.RoundTrips.{WrittenRecord, write-read, read-write}
 use Rattle.record_read.proofs.Items.{itemAt-itemsOf}

@@ -1,22 +1,25 @@
 // The writer: a request and its items as a record at the start of a buffer, or the refusal and nothing written.
-mod judge;
-
 ghost use mathlib.Core.Path.{_≡_};
 ghost use mathlib.Core.List.{flatMap, [], _∷_};
 ghost use Prim.Native.Nat.{_+_, _*_, _≤_};
 ghost use lib.ListN.{length, drop};
 ghost use lib.Seq.{sets};
 ghost use Rattle.octets.specs.Fields.{bytesOf, offset};
+ghost use Rattle.octets.specs.Joined.{joined};
 ghost use Rattle.octets.specs.Numbers.{toBe};
 ghost use Rattle.rules.specs.Applied.{filledBy, written};
 ghost use Rattle.rules.specs.Layout.{itemSize, recordFields, recordMark, recordSize, recordVersion};
-ghost use Rattle.rules.specs.Record.{requestNumbers};
-use crate::judge::verdict;
+ghost use Rattle.rules.specs.Lists.{zeros};
+ghost use Rattle.rules.specs.Record.{cancelZeros, identifierToSib, requestNumbers};
+ghost use Rattle.rules.specs.Refusals.{writeVerdict};
 use octets::put8;
 use octets::put16;
 use octets::put32;
 use octets::put64;
+use record_judge::judged;
+use rules::Refusal;
 use rules::Request;
+use rules::Seconds;
 use rules::Verdict;
 use rules::Writing;
 use rules::layout::AREA_AT;
@@ -25,6 +28,8 @@ use rules::layout::FLAGS_AT;
 use rules::layout::IDENTIFIER_AT;
 use rules::layout::ITEM;
 use rules::layout::KIND_AT;
+use rules::layout::LONGEST_PERIOD;
+use rules::layout::MOST_ITEMS;
 use rules::layout::RECORD;
 use rules::layout::RECORD_CONTENT_AT;
 use rules::layout::RECORD_MARK;
@@ -35,6 +40,71 @@ use rules::layout::RECORD_VERSION;
 use rules::layout::SERIAL_AT;
 use rules::layout::VERSION_AT;
 use rules::layout::ZERO_AT;
+
+// ---- whether it is written: document 01, "The request record"
+
+// "identifier to SIB" are zero.
+fn no_text(request: Request) -> bool
+    ensures { λ r. ⌜ r ≡ zeros (identifierToSib request) ⌝ }
+{
+    (request.identifier == 0)
+        & (request.serial == 0)
+        & (request.content == 0)
+        & (request.period.0 == 0)
+        & (request.requested.0 == 0)
+        & (request.sib == 0)
+}
+
+// What a cancel leaves out is zero.
+fn cancel_zeros(request: Request) -> bool
+    ensures { λ r. ⌜ r ≡ zeros (cancelZeros request) ⌝ }
+{
+    ((request.content | request.period.0 | (request.sib as u32)) == 0)
+        & (request.notified() | ((request.identifier == 0) & (request.serial == 0)))
+}
+
+// Every bit that is set in any item.
+fn any_item(items: &[u64]) -> u64
+    ensures { λ r. ⌜ r ≡ joined 0 (now (items .entry)) ⌝ }
+{
+    let mut any: u64 = 0;
+    let mut k = 0;
+    while k < items.len() {
+        any = any | items[k];
+        k += 1;
+    }
+    any
+}
+
+// The first of the refusals 4 (n only), 5, 6, 7 and 8 that applies.
+fn verdict(request: Request, items: &[u64], room: usize) -> Verdict
+    ensures { λ r. ⌜ r ≡ writeVerdict request (now (items .entry)) room ⌝ }
+{
+    let n = items.len();
+    if MOST_ITEMS < n {
+        return Verdict::Refused(Refusal::RecordLength);
+    }
+    let any = any_item(items);
+    let judgement = judged(
+        request.kind,
+        request.flags,
+        request.area,
+        request.period,
+        request.sib,
+        no_text(request),
+        cancel_zeros(request),
+        n,
+        any,
+        Seconds(LONGEST_PERIOD),
+    );
+    if let Verdict::Refused(refusal) = judgement {
+        return Verdict::Refused(refusal);
+    }
+    if room < RECORD + ITEM * n {
+        return Verdict::Refused(Refusal::ShortBuffer);
+    }
+    Verdict::Accepted
+}
 
 // ---- the fields, by their numbers in the layout
 
@@ -108,6 +178,8 @@ fn put_items(buffer: &mut [u8], items: &[u64])
     }
     put64(buffer, at, items[k]);
 }
+
+// ---- both
 
 // The record of a request and its items at the start of the buffer; bytes behind it stay. A refusal writes nothing.
 pub fn write(request: Request, items: &[u64], buffer: &mut [u8]) -> Writing

@@ -8,7 +8,7 @@ use lib.Dec.{ltb}
 use lib.ListN.{length}
 use borrow.Author.Tests.{ltb-false}
 use Rattle.rules.specs.Layout.{mostCells}
-use Rattle.rules.proofs.ListsLaws.{neither}
+use Rattle.rules.proofs.TestLaws.{neither}
 use Rattle.report_lines.specs.Framing.{headsEnd}
 use Rattle.report_turns.specs.Serve.{mostText}
 use Rattle.report_turns.specs.Buffers.{Standing, Turned}

@@ -21,7 +21,7 @@ use Rattle.rules.specs.declared.Request.{Request}
 use Rattle.rules.specs.declared.Verdict.{Verdict}
 use Rattle.rules.specs.declared.Verdict.the-variants.{Accepted, Refused}
 use Rattle.rules.proofs.LayoutLaws.{record-size}
-use Rattle.rules.proofs.ListsLaws.{both, by-test}
+use Rattle.rules.proofs.TestLaws.{both, by-test}
 use Rattle.rules.proofs.VerdictLaws.{apply-chain}
 use Rattle.report_lines.specs.Framing.{ownSize, frameOf, stopsAt}
 use Rattle.report_lines.proofs.FrameLaws.{own-whole, frame-whole, frame-cut}

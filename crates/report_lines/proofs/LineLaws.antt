@@ -1,20 +1,19 @@
--- Laws of the report's lines: each is its parts, stored one behind the other, and what is read of an answer is what its fields say.
-use mathlib.Core.Path.{_≡_, refl, sym, _∙_}
+-- Laws of the report's lines: each is its parts, stored one behind the other, and those of an answer are its first line and a line for each row.
+-- A text behind another is one text; rows still to come are peeled one by one.
+use mathlib.Core.Path.{_≡_, refl, _∙_}
 use mathlib.Core.List.{List, [], _∷_, _++_, map, flatMap}
-use Prim.Native.Nat.{ℕ, _+_, _-_, _≤_, _<_}
-use native.Mathlib.Nat.{add-zero}
+use Prim.Native.Nat.{ℕ, _+_, _-_, _*_, _≤_, _<_}
 use native.Mathlib.Omega.{arith}
-use lib.ListN.{length, getD, drop, set, length-append}
+use lib.ListN.{length, drop, set, length-map, length-append}
 use lib.Seq.{sets}
-use Rattle.octets.specs.Runs.{gets, pieces}
-use Rattle.octets.specs.Numbers.{be}
-use Rattle.octets.specs.Fields.{offset, fieldOf}
-use Rattle.octets.proofs.RunsLaws.{sets-run, gets-gets, length-gets}
-use Rattle.octets.proofs.FieldsLaws.{field-at}
-use Rattle.octets.proofs.PiecesLaws.{pieces-next, pieces-none}
-use Rattle.rules.specs.Layout.{answerFields, answerSize, rowFields, rowSize, kindInAnswer}
-use Rattle.rules.specs.Answer.{Row}
-use Rattle.report_lines.specs.Text.{digits, places, decimal, hexPlaces, space, lineFeed, numberText, cellText, noText, okText, rowText, rowSaid, rowCount, answerText, Said}
+use Rattle.octets.specs.Runs.{pieces}
+use Rattle.octets.proofs.RunsLaws.{sets-run}
+use Rattle.octets.proofs.PiecesLaws.{pieces-next, pieces-none, length-pieces}
+use Rattle.rules.specs.Layout.{current, answerSize, rowSize}
+use Rattle.rules.specs.Reply.{Row}
+use Rattle.rules.specs.Answer.{rowOf, rowCount, rowRuns, answerOf}
+use Rattle.answer.specs.Rows.{rowAt}
+use Rattle.report_lines.specs.Text.{digits, places, decimal, hexPlaces, space, lineFeed, numberText, cellText, noText, okText, rowText, answerText, Said}
 use Rattle.report_lines.proofs.TextLaws.{length-digits, said-then}
 
 -- ---- a number and what ends it
@@ -58,46 +57,32 @@ module _ {out first next last : List ℕ} {at a b end : ℕ} where
 
 -- ---- rows
 
--- what an answer's bytes at an index say of a row: the field k of a row, w bytes at an offset
-pub row-field : (k at w : ℕ) → offset rowFields k ≡ at → getD rowFields k 0 ≡ w → at + w ≤ rowSize → (answer : List ℕ) (from : ℕ)
-    → fieldOf rowFields k (gets answer from rowSize) ≡ be (gets answer (from + at) w)
-row-field k at w o v h answer from =
-    let l : length (gets answer from rowSize) ≡ rowSize = length-gets rowSize answer from in
-    field-at rowFields k (gets answer from rowSize) (omega arith) ∙ rw (o, v, gets-gets w rowSize answer from at h)
-
-pub row-told : (answer : List ℕ) (from i k n : ℕ) → i ≡ be (gets answer from 8) → k ≡ be (gets answer (from + 8) 2) → n ≡ be (gets answer (from + 10) 4)
-    → record { identity = i; count = k; content = n } ≡ rowSaid (gets answer from rowSize)
-unfolding rowSaid offset
-row-told answer from i k n a b d =
-    rw (
-      row-field 0 0 8 refl refl (omega arith) answer from,
-      row-field 1 8 2 refl refl (omega arith) answer from,
-      row-field 2 10 4 refl refl (omega arith) answer from,
-      add-zero,
-      a,
-      b,
-      d,
-    )
-
 abbrev pub rowsText : ℕ → List ℕ → List ℕ
-rowsText n l = flatMap rowText (map rowSaid (pieces rowSize n l))
+rowsText n l = flatMap rowText (map (rowOf current) (pieces (rowSize current) n l))
 
-pub rows-next : (n : ℕ) (answer : List ℕ) (from : ℕ) → 0 < n → from + rowSize ≤ length answer
-    → rowsText n (drop from answer) ≡ rowText (rowSaid (gets answer from rowSize)) ++ rowsText (n - 1) (drop (from + rowSize) answer)
+-- where row k stands, and what is behind it
+abbrev pub rowsFrom : ℕ → ℕ → List ℕ → List ℕ
+rowsFrom k rows answer = rowsText (rows - k) (drop (answerSize current + rowSize current * k) answer)
+
+pub rows-next : (k rows : ℕ) (answer : List ℕ) → k < rows → answerSize current + rowSize current * rows ≤ length answer
+    → rowsFrom k rows answer ≡ rowText (rowAt answer k) ++ rowsFrom (k + 1) rows answer
+unfolding flatMap rowAt
+rows-next k rows answer h fits =
+    let from : ℕ = answerSize current + rowSize current * k in
+    let one : rows - k - 1 ≡ rows - (k + 1) = omega arith in
+    let next : from + rowSize current ≡ answerSize current + rowSize current * (k + 1) = omega arith in
+    rw (pieces-next (rowSize current) (rows - k) answer from (omega (arith, h)) (omega (arith, h, fits)), one, next)
+
+pub rows-none : (k rows : ℕ) (answer : List ℕ) → rows ≤ k → rowsFrom k rows answer ≡ []
 unfolding flatMap
-rows-next n answer from h k = rw (pieces-next rowSize n answer from h k)
+rows-none k rows answer h = rw (pieces-none (rowSize current) (rows - k) (drop (answerSize current + rowSize current * k) answer) (omega (arith, h)))
 
-pub rows-none : (n : ℕ) (l : List ℕ) → n ≤ 0 → rowsText n l ≡ []
-unfolding flatMap
-rows-none n l h = rw (pieces-none rowSize n l h)
-
-pub answer-said : {out next last : List ℕ} {at mid end : ℕ} (answer : List ℕ) (kind rows : ℕ) → answerSize ≤ length answer
-    → kind ≡ be (gets answer 5 1) → rows ≡ rowCount answer → Said out at (okText kind rows) next mid
-    → Said next mid (rowsText rows (drop answerSize answer)) last end → Said out at (answerText answer) last end
-unfolding answerText offset
-answer-said {out} {next} {last} {at} {mid} {end} answer kind rows h k r a b =
-    let f : fieldOf answerFields kindInAnswer answer ≡ kind = field-at answerFields kindInAnswer answer (omega arith) ∙ sym k in
-    rw (f, ← r) (said-then a b)
+pub answer-said : {out next last : List ℕ} {at mid end : ℕ} (answer : List ℕ) (kind rows : ℕ) → kind ≡ answerOf current answer .kind → rows ≡ rowCount current answer
+    → Said out at (okText kind rows) next mid → Said next mid (rowsText rows (drop (answerSize current) answer)) last end → Said out at (answerText (answerOf current answer)) last end
+unfolding answerText answerOf
+answer-said answer kind rows k r a b =
+    let many : length (map (rowOf current) (rowRuns current answer)) ≡ rowCount current answer = length-map (rowRuns current answer) (rowOf current) ∙ length-pieces (rowSize current) (rowCount current answer) (drop (answerSize current) answer) in
+    rw (many, ← r, ← k) (said-then a b)
 
 -- ---- text still to come: what is stored now and the rest behind it are the whole
 

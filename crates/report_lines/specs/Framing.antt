@@ -5,7 +5,7 @@ use Prim.Native.Nat.{ℕ, _+_, _*_}
 use lib.Dec.{leb}
 use lib.ListN.{length, take}
 use Rattle.octets.specs.Numbers.{be}
-use Rattle.rules.specs.Layout.{headSize, mostCells, recordSize, itemSize, mostItems}
+use Rattle.rules.specs.Layout.{current, headSize, mostCells, recordSize, itemSize, mostItems}
 use Rattle.rules.specs.Record.{itemCount}
 
 -- ---- the heads
@@ -19,7 +19,7 @@ unfoldable pub cellsNamed : List ℕ → ℕ
 cellsNamed l = cond (leb (be (take countSize l)) mostCells) (be (take countSize l)) 0
 
 abbrev pub headsEnd : ℕ → ℕ
-headsEnd n = countSize + headSize * n
+headsEnd n = countSize + (headSize current) * n
 
 -- ---- a record
 

@@ -1,15 +1,14 @@
 -- Document 01, "Per request it prints ..": the lines, as ASCII codes.
 use mathlib.Core.Path.{_≡_}
 use mathlib.Core.Bool.{cond}
-use mathlib.Core.List.{List, [], _∷_, _++_, map, flatMap}
-use Prim.Native.Nat.{ℕ, zero, suc, _+_, _-_, _/_, _%_}
+use mathlib.Core.List.{List, [], _∷_, _++_, flatMap}
+use Prim.Native.Nat.{ℕ, zero, suc, _+_, _/_, _%_}
 use lib.Dec.{eqb, ltb}
-use lib.ListN.{length, take, drop}
+use lib.ListN.{length, take}
 use lib.Seq.{sets}
-use Rattle.octets.specs.Runs.{pieces}
-use Rattle.octets.specs.Fields.{fieldOf}
-use Rattle.rules.specs.Layout.{identityInRow, countInRow, contentInRow, kindInAnswer, answerFields, rowFields, answerSize, rowSize}
-use Rattle.rules.specs.Answer.{Row}
+use Rattle.rules.specs.Layout.{current}
+use Rattle.rules.specs.Reply.{Row}
+use Rattle.rules.specs.Answer.{Answer, answerOf}
 use Rattle.rules.specs.Applied.{Outcome}
 
 -- ---- numbers
@@ -72,20 +71,13 @@ longestRow = hexPlaces + 1 + (mostPlaces + 1) + (mostPlaces + 1)
 
 -- ---- an answer's lines
 
-unfoldable pub rowSaid : List ℕ → Row
-rowSaid b = record { identity = fieldOf rowFields identityInRow b; count = fieldOf rowFields countInRow b; content = fieldOf rowFields contentInRow b }
-
-abbrev pub rowCount : List ℕ → ℕ
-rowCount a = (length a - answerSize) / rowSize
-
-unfoldable pub answerText : List ℕ → List ℕ
-answerText a =
-    okText (fieldOf answerFields kindInAnswer a) (rowCount a)
-    ++ flatMap rowText (map rowSaid (pieces rowSize (rowCount a) (drop answerSize a)))
+unfoldable pub answerText : Answer → List ℕ
+answerText a = okText (a .kind) (length (a .reply .rows)) ++ flatMap rowText (a .reply .rows)
 
 -- what is printed of a request, by what it left
 unfoldable pub saidOf : Outcome → List ℕ
-saidOf o = cond (eqb (o .number) 0) (answerText (take (o .length) (o .answer))) (noText (o .number))
+saidOf o =
+    cond (eqb (o .number) 0) (answerText (answerOf current (take (o .length) (o .answer)))) (noText (o .number))
 
 -- ---- a writer stores its text at an index, and says where it ends
 

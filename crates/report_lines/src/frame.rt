@@ -7,7 +7,7 @@ ghost use Rattle.octets.specs.Runs.{gets};
 ghost use Rattle.rules.specs.Layout.{mostCells};
 ghost use Rattle.report_lines.specs.Framing.{countSize, cellsNamed, ownSize, frameOf};
 use octets::get16;
-use record_read::read::count;
+use record_read::count;
 use rules::layout::ITEM;
 use rules::layout::MOST_CELLS;
 use rules::layout::MOST_ITEMS;

@@ -4,19 +4,16 @@ ghost use mathlib.Core.List.{[], _∷_, map, flatMap};
 ghost use Prim.Native.Nat.{_+_, _*_, _≤_, _<_};
 ghost use lib.ListN.{length, drop};
 ghost use lib.Seq.{sets};
-ghost use Rattle.octets.specs.Runs.{gets, pieces};
-ghost use Rattle.rules.specs.Layout.{answerSize, rowSize};
-ghost use Rattle.report_lines.specs.Text.{glyph as Text·glyph, digits, places as Text·places, decimal, mostPlaces, hexPlaces, space, numberText, cellText, noText, okText, rowText, longestRow, rowSaid, rowCount, answerText, Said};
-use octets::get8;
-use octets::get16;
-use octets::get32;
-use octets::get64;
+ghost use Rattle.octets.specs.Runs.{pieces};
+ghost use Rattle.rules.specs.Layout.{current, answerSize, rowSize};
+ghost use Rattle.rules.specs.Answer.{rowOf, rowCount, answerOf};
+ghost use Rattle.answer.specs.Rows.{rowSaid};
+ghost use Rattle.report_lines.specs.Text.{glyph as Text·glyph, digits, places as Text·places, decimal, mostPlaces, hexPlaces, space, numberText, cellText, noText, okText, rowText, longestRow, answerText, Said};
+use answer::Row;
+use answer::kind;
+use answer::row_at;
+use answer::rows;
 use rules::CellIdentity;
-use rules::layout::ANSWER;
-use rules::layout::ANSWER_KIND_AT;
-use rules::layout::CONTENT_IN_ROW_AT;
-use rules::layout::COUNT_IN_ROW_AT;
-use rules::layout::ROW;
 
 const HEX_PLACES: usize = 15;
 
@@ -116,55 +113,41 @@ fn put_ok(out: &mut [u8], at: usize, kind: u8, rows: usize) -> usize
     put_number(out, next, rows as u64, b'\n')
 }
 
-// The row at an index of an answer.
-fn put_row(out: &mut [u8], at: usize, answer: &[u8], from: usize) -> usize
+fn put_row(out: &mut [u8], at: usize, row: Row) -> usize
     requires { ⌜ at + longestRow ≤ length (now out) ⌝ }
-    requires { ⌜ from + rowSize ≤ length (now answer) ⌝ }
-    ensures { λ r. ⌜ Said (now (out .entry)) at (rowText (rowSaid (gets (now (answer .entry)) from rowSize))) (now (out .exit)) r ⌝ }
+    ensures { λ r. ⌜ Said (now (out .entry)) at (rowText (rowSaid row)) (now (out .exit)) r ⌝ }
     ensures { λ r. ⌜ r ≤ at + longestRow ⌝ }
 {
-    let identity = CellIdentity(get64(answer, from));
+    let identity = row.identity;
     let cell = put_cell(out, at, identity);
-    let next = put_number(
-        out,
-        cell,
-        get16(answer, from + COUNT_IN_ROW_AT) as u64,
-        b' ',
-    );
-    put_number(
-        out,
-        next,
-        get32(answer, from + CONTENT_IN_ROW_AT) as u64,
-        b'\n',
-    )
+    let next = put_number(out, cell, row.count.0 as u64, b' ');
+    put_number(out, next, row.content as u64, b'\n')
 }
 
-// The rows of an answer from an index on, a line each.
+// The rows of an answer, a line each.
 fn put_rows(out: &mut [u8], at: usize, answer: &[u8], rows: usize) -> usize
     requires { ⌜ at + longestRow * rows ≤ length (now out) ⌝ }
-    requires { ⌜ answerSize + rowSize * rows ≤ length (now answer) ⌝ }
-    ensures { λ r. ⌜ Said (now (out .entry)) at (flatMap rowText (map rowSaid (pieces rowSize rows (drop answerSize (now (answer .entry)))))) (now (out .exit)) r ⌝ }
+    requires { ⌜ answerSize current + rowSize current * rows ≤ length (now answer) ⌝ }
+    ensures { λ r. ⌜ Said (now (out .entry)) at (flatMap rowText (map (rowOf current) (pieces (rowSize current) rows (drop (answerSize current) (now (answer .entry)))))) (now (out .exit)) r ⌝ }
     ensures { λ r. ⌜ r ≤ at + longestRow * rows ⌝ }
 {
     let mut next = at;
-    let mut from = ANSWER;
-    let mut left = rows;
-    while 0 < left {
-        next = put_row(out, next, answer, from);
-        from += ROW;
-        left -= 1;
+    let mut k = 0;
+    while k < rows {
+        next = put_row(out, next, row_at(answer, k));
+        k += 1;
     }
     next
 }
 
 // An answer: "ok KIND ROWS" and its rows.
 pub fn put_answer(out: &mut [u8], at: usize, answer: &[u8]) -> usize
-    requires { ⌜ answerSize ≤ length (now answer) ⌝ }
-    requires { ⌜ at + (mostPlaces + mostPlaces + 5 + longestRow * rowCount (now answer)) ≤ length (now out) ⌝ }
-    ensures { λ r. ⌜ Said (now (out .entry)) at (answerText (now (answer .entry))) (now (out .exit)) r ⌝ }
-    ensures { λ r. ⌜ r ≤ at + (mostPlaces + mostPlaces + 5 + longestRow * rowCount (now (answer .entry))) ⌝ }
+    requires { ⌜ answerSize current + rowSize current * rowCount current (now answer) ≤ length (now answer) ⌝ }
+    requires { ⌜ at + (mostPlaces + mostPlaces + 5 + longestRow * rowCount current (now answer)) ≤ length (now out) ⌝ }
+    ensures { λ r. ⌜ Said (now (out .entry)) at (answerText (answerOf current (now (answer .entry)))) (now (out .exit)) r ⌝ }
+    ensures { λ r. ⌜ r ≤ at + (mostPlaces + mostPlaces + 5 + longestRow * rowCount current (now (answer .entry))) ⌝ }
 {
-    let rows = (answer.len() - ANSWER) / ROW;
-    let next = put_ok(out, at, get8(answer, ANSWER_KIND_AT), rows);
-    put_rows(out, next, answer, rows)
+    let many = rows(answer);
+    let next = put_ok(out, at, kind(answer), many);
+    put_rows(out, next, answer, many)
 }

@@ -6,7 +6,7 @@ use mathlib.Core.List.{List, [], _++_, flatMap, append-assoc, append-nil}
 use Prim.Native.Nat.{ℕ}
 use lib.Dec.{eqb}
 use borrow.Author.Tests.{eqb-true, eqb-false, ne-eqb}
-use Rattle.rules.proofs.ListsLaws.{by-test}
+use Rattle.rules.proofs.TestLaws.{by-test}
 use Rattle.report_turns.specs.Turns.{Program, begun, step, Spoken, stops, goes, reads, finds-the-end}
 use Rattle.report_turns.specs.Pieces.{joined, CutAnywhere}
 use Rattle.report_turns.proofs.TurnLaws.{still, Untouched, NoMore, inAll, serves-said}

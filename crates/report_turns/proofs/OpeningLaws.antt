@@ -10,9 +10,9 @@ use lib.ListN.{length, take, drop, replicate, length-append, length-drop}
 use lib.Seq.{take-append-le, drop-append-le}
 use borrow.Author.Tests.{eqb-true, ne-eqb, leb-true, le-leb}
 use Rattle.octets.specs.Numbers.{be}
-use Rattle.rules.specs.Layout.{headSize, mostCells}
+use Rattle.rules.specs.Layout.{current, headSize, mostCells}
 use Rattle.rules.specs.Applied.{Filled, built}
-use Rattle.rules.proofs.ListsLaws.{by-test, both}
+use Rattle.rules.proofs.TestLaws.{by-test, both}
 use Rattle.report_lines.specs.Text.{noText}
 use Rattle.report_lines.specs.Framing.{countSize, cellsNamed, headsEnd}
 use Rattle.report_turns.specs.Report.{answerRoom, tableSize, openedSaid, report}
@@ -58,10 +58,10 @@ module _ (l more : List ℕ) where
       rw (cells-stay (t .counted), le-leb countSize (length (l ++ more)) (omega (arith, t .counted)), le-leb 1 (cellsNamed l) (t .least))
       (le-leb (headsEnd (cellsNamed l)) (length (l ++ more)) (omega (arith, t .within)))
 
-  heads-stay : There → take (headSize * cellsNamed l) (drop countSize (l ++ more)) ≡ take (headSize * cellsNamed l) (drop countSize l)
+  heads-stay : There → take ((headSize current) * cellsNamed l) (drop countSize (l ++ more)) ≡ take ((headSize current) * cellsNamed l) (drop countSize l)
   heads-stay t =
       let d : length (drop countSize l) ≡ length l - countSize = length-drop countSize l in
-      rw (drop-append-le countSize l more (t .counted)) (take-append-le (headSize * cellsNamed l) (drop countSize l) more (omega (arith, t .within)))
+      rw (drop-append-le countSize l more (t .counted)) (take-append-le ((headSize current) * cellsNamed l) (drop countSize l) more (omega (arith, t .within)))
 
   -- ---- a table, or the builder's refusal
 
@@ -82,7 +82,7 @@ module _ (l more : List ℕ) where
   heads-said ended e =
       let t = there e in
       rw (e, there-stays t, cells-stay (t .counted), heads-stay t, take-replicate {A = ℕ} (tableSize n) (tableSize mostCells) 0 (omega (arith, cells-most l)))
-      (opened-said t (built (take (headSize * n) (drop countSize l)) (replicate (tableSize n) 0)))
+      (opened-said t (built (take ((headSize current) * n) (drop countSize l)) (replicate (tableSize n) 0)))
 
   -- ---- no table
 

@@ -10,7 +10,7 @@ use lib.ListN.{length, take, drop, length-drop}
 use borrow.Author.Tests.{eq-eqb, eqb-false, ne-eqb}
 use Rattle.rules.specs.Layout.{current}
 use Rattle.rules.specs.Applied.{Outcome, applied}
-use Rattle.rules.proofs.ListsLaws.{by-test}
+use Rattle.rules.proofs.TestLaws.{by-test}
 use Rattle.report_lines.specs.Text.{saidOf}
 use Rattle.report_lines.specs.Framing.{ownSize, frameOf, stopsAt}
 use Rattle.report_lines.proofs.Framed.{own-least}

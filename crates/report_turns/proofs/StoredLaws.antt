@@ -9,7 +9,7 @@ use lib.ListN.{length, take, drop, take-append-drop}
 use lib.Seq.{sets, drop-length, length-take-le, take-all}
 use borrow.Author.Tests.{leb-true, leb-false}
 use Rattle.octets.proofs.RunsLaws.{sets-front}
-use Rattle.rules.proofs.ListsLaws.{by-test}
+use Rattle.rules.proofs.TestLaws.{by-test}
 
 pub sets-all : (l : List ℕ) → sets l 0 l ≡ l
 sets-all l = sets-front l l (omega arith) ∙ ap (λ (x : List ℕ). l ++ x) (drop-length l) ∙ append-nil l

@@ -11,9 +11,8 @@ use lib.ListN.{length, take, drop, length-append}
 use lib.Seq.{sets, drop-drop, sets-eq, take-at, length-take-le, take-nil}
 use borrow.Author.Tests.{ne-eqb, eqb-true, eqb-false}
 use Rattle.octets.proofs.RunsLaws.{take-sets-front}
-use Rattle.rules.proofs.ListsLaws.{by-test}
-use Rattle.report_turns.specs.Turns.{Program, Sized, Step, step, Spoken}
-use Rattle.report_turns.specs.Turns.{stops as spoken-stops, goes as spoken-goes, reads as spoken-reads, finds-the-end as spoken-end}
+use Rattle.rules.proofs.TestLaws.{by-test}
+use Rattle.report_turns.specs.Turns.{Program, Sized, Step, step, Spoken, stops as spoken-stops, goes as spoken-goes, reads as spoken-reads, finds-the-end as spoken-end}
 use Rattle.report_turns.specs.Buffers.{programIn, heldIn, stepOf}
 use Rattle.report_turns.specs.Talk.{Called, Fed, Talk, stops, goes, writes, reads, finds-the-end, TalkReports}
 use Rattle.report_turns.specs.declared.Stand.{Stand}

@@ -11,7 +11,7 @@ use lib.Seq.{drop-append-le}
 use borrow.Author.Tests.{eqb-true, eqb-false, ne-eqb, leb-true, leb-false}
 use Rattle.rules.specs.Layout.{current}
 use Rattle.rules.specs.Applied.{applied}
-use Rattle.rules.proofs.ListsLaws.{by-test}
+use Rattle.rules.proofs.TestLaws.{by-test}
 use Rattle.report_lines.specs.Framing.{ownSize, frameOf}
 use Rattle.report_lines.proofs.Framed.{frame-stays, record-stays}
 use Rattle.report_turns.specs.Report.{requestsSaid, report}

@@ -8,9 +8,9 @@ use lib.Dec.{eqb, ltb}
 use lib.ListN.{length, take, drop, length-drop}
 use lib.Seq.{length-take-le}
 use borrow.Author.Tests.{ne-eqb}
-use Rattle.rules.specs.Layout.{headSize, mostCells}
+use Rattle.rules.specs.Layout.{current, headSize, mostCells}
 use Rattle.rules.specs.Applied.{Filled, built}
-use Rattle.rules.proofs.ListsLaws.{by-test}
+use Rattle.rules.proofs.TestLaws.{by-test}
 use Rattle.report_lines.specs.Text.{noText}
 use Rattle.report_lines.specs.Framing.{countSize, cellsNamed, frameOf}
 use Rattle.report_turns.specs.Report.{tableSize}
@@ -44,7 +44,7 @@ module _ (p : Program) (few : p .cells ≤ mostCells) (l : List ℕ) where
   unfolding opens
   opens-small ended =
       by-test (headsThere l)
-      (λ (e : headsThere l ≡ true). rw e (opened-small e (built (take (headSize * cellsNamed l) (drop countSize l)) (take (tableSize (cellsNamed l)) (p .table)))))
+      (λ (e : headsThere l ≡ true). rw e (opened-small e (built (take ((headSize current) * cellsNamed l) (drop countSize l)) (take (tableSize (cellsNamed l)) (p .table)))))
       (λ (e : headsThere l ≡ false). rw e (nothing-taken (ended || noCells l) (noText 9)))
 
   serves-within : (ended : Bool) → serves ended p l .taken ≤ length l

@@ -7,10 +7,10 @@ use native.Mathlib.Omega.{arith}
 use lib.Dec.{eqb, leb}
 use lib.ListN.{length, take, drop}
 use borrow.Author.Tests.{eqb-true, eqb-false, le-leb, leb-true, leb-false}
-use Rattle.rules.specs.Layout.{headSize, mostCells, recordSize, itemSize, mostItems}
+use Rattle.rules.specs.Layout.{current, headSize, mostCells, recordSize, itemSize, mostItems}
 use Rattle.rules.specs.Record.{itemCount}
 use Rattle.rules.specs.Applied.{Filled, built}
-use Rattle.rules.proofs.ListsLaws.{by-test, both, neither}
+use Rattle.rules.proofs.TestLaws.{by-test, both, neither}
 use Rattle.report_lines.specs.Framing.{countSize, cellsNamed, headsEnd, ownSize, frameOf}
 use Rattle.report_lines.proofs.Framed.{own-least}
 use Rattle.report_turns.specs.Report.{tableSize}
@@ -68,7 +68,7 @@ opens-short : (ended : Bool) (p : Program) (l : List ℕ) → opens ended p l .w
 unfolding opens
 opens-short ended p l w =
     by-test (headsThere l)
-    (λ (e : headsThere l ≡ true). absurd (opened-goes (cellsNamed l) p (built (take (headSize * cellsNamed l) (drop countSize l)) (take (tableSize (cellsNamed l)) (p .table))) (rw e at w)))
+    (λ (e : headsThere l ≡ true). absurd (opened-goes (cellsNamed l) p (built (take ((headSize current) * cellsNamed l) (drop countSize l)) (take (tableSize (cellsNamed l)) (p .table))) (rw e at w)))
     (λ (e : headsThere l ≡ false). by-test (ended || noCells l)
     (λ (o : ended || noCells l ≡ true). absurd (false≢true (rw (e, o) at w)))
     (λ (o : ended || noCells l ≡ false). part-of-heads l e (neither ended (noCells l) o .1)))

@@ -11,7 +11,7 @@ use Rattle.report_lines.specs.Framing.{countSize, cellsNamed, headsEnd, frameOf
 
 -- the largest answer that a table of n cells gives
 abbrev pub answerRoom : ℕ → ℕ
-answerRoom n = answerSize + rowSize * placesPerCell * n
+answerRoom n = (answerSize current) + (rowSize current) * placesPerCell * n
 
 abbrev pub tableSize : ℕ → ℕ
 tableSize n = headerSize + cellSize current * n
@@ -38,5 +38,5 @@ report l =
     let n = cellsNamed l in
     cond
     (leb countSize (length l) && (leb 1 n && leb (headsEnd n) (length l)))
-    (openedSaid n (built (take (headSize * n) (drop countSize l)) (replicate (tableSize n) 0)) (drop (headsEnd n) l))
+    (openedSaid n (built (take ((headSize current) * n) (drop countSize l)) (replicate (tableSize n) 0)) (drop (headsEnd n) l))
     (noText 9)

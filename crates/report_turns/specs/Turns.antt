@@ -65,7 +65,7 @@ opened n p f =
 unfoldable pub opens : Bool → Program → List ℕ → Step
 opens ended p l =
     let n = cellsNamed l in
-    cond (headsThere l) (opened n p (built (take (headSize * n) (drop countSize l)) (take (tableSize n) (p .table))))
+    cond (headsThere l) (opened n p (built (take ((headSize current) * n) (drop countSize l)) (take (tableSize n) (p .table))))
     (cond (ended || noCells l) (stopping (noText 9) p) (waiting p))
 
 -- ---- a request

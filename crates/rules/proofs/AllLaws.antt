@@ -2,17 +2,17 @@
 -- Each goes by the list.
 use mathlib.Core.Path.{_≡_, refl}
 use mathlib.Core.Bool.{Bool, true}
-use mathlib.Core.List.{List, [], _∷_, map, flatMap}
-use Prim.Native.Nat.{ℕ, zero, suc, _+_, _*_, _-_, _≤_}
+use mathlib.Core.List.{List, [], _∷_, _++_, map, flatMap}
+use Prim.Native.Nat.{ℕ, zero, suc, _+_, _*_, _-_, _≤_, _<_}
 use native.Mathlib.Nat.{mul-zero, mul-suc, add-comm}
 use native.Mathlib.Omega.{arith}
-use lib.ListN.{length, drop, length-append, length-drop}
+use lib.ListN.{length, getD, set, take, drop, length-append, length-drop}
 use lib.Seq.{length-take-le, take-at, drop-at}
 use Rattle.octets.specs.Runs.{Bytes, pieces}
 use Rattle.octets.specs.Fields.{padded}
 use Rattle.octets.proofs.RunsLaws.{bytes-take, bytes-drop, bytes-append}
 use Rattle.rules.specs.Lists.{every}
-use Rattle.rules.proofs.ListsLaws.{both, and-true}
+use Rattle.rules.proofs.TestLaws.{both, and-true}
 
 pub data All {A : Type 0} (P : A → Type 0) : List A → Type 0 where
   none : All P []
@@ -87,3 +87,30 @@ unfolding pieces flatMap
 pieces-joined w none = refl
 pieces-joined w (more {x = l} {xs = ls} p ps) =
     rw (take-at l (flatMap (λ k. k) ls) w p, drop-at l (flatMap (λ k. k) ls) w p, pieces-joined w ps)
+
+-- ---- at an index, joined, in parts
+
+module _ {A : Type 0} {P : A → Type 0} where
+  pub all-at : {xs : List A} → All P xs → (k : ℕ) (d : A) → k < length xs → P (getD xs k d)
+  all-at none k d h = absurd (omega arith)
+  all-at (more p ps) zero d h = p
+  all-at (more p ps) (suc k) d h = all-at ps k d (omega arith)
+
+  pub all-set : {xs : List A} → All P xs → (k : ℕ) {x : A} → P x → All P (set xs k x)
+  all-set none k q = none
+  all-set (more p ps) zero q = more q ps
+  all-set (more p ps) (suc k) q = more p (all-set ps k q)
+
+  pub all-append : {xs ys : List A} → All P xs → All P ys → All P (xs ++ ys)
+  all-append none qs = qs
+  all-append (more p ps) qs = more p (all-append ps qs)
+
+  pub all-take : (k : ℕ) {xs : List A} → All P xs → All P (take k xs)
+  all-take zero ps = none
+  all-take (suc k) none = none
+  all-take (suc k) (more p ps) = more p (all-take k ps)
+
+  pub all-drop : (k : ℕ) {xs : List A} → All P xs → All P (drop k xs)
+  all-drop zero ps = ps
+  all-drop (suc k) none = none
+  all-drop (suc k) (more p ps) = all-drop k ps

@@ -14,11 +14,13 @@ use Rattle.rules.specs.Record.{writeReplace, requestOf, itemsOf}
 use Rattle.rules.specs.Reach.{reaches}
 use Rattle.rules.specs.InCell.{inCell, startsNothing, done}
 use Rattle.rules.specs.Refusals.{tableVerdict, applyVerdict}
-use Rattle.rules.specs.Applied.{stepCell, cellAfter, cellRows, applied}
+use Rattle.rules.specs.Applied.{stepCell, cellAfter, applied}
+use Rattle.rules.specs.Reply.{cellRows}
 use Rattle.rules.specs.declared.Request.{Request}
 use Rattle.rules.specs.declared.Verdict.the-variants.{Accepted}
-use Rattle.rules.proofs.ListsLaws.{flatMap-map, by-test}
-use Rattle.rules.proofs.TableCodec.{table-accepted}
+use Rattle.rules.proofs.MapLaws.{flatMap-map}
+use Rattle.rules.proofs.TestLaws.{by-test}
+use Rattle.rules.proofs.LegalTableLaws.{table-accepted}
 use Rattle.rules.proofs.StartLaws.{start-idle}
 use Rattle.rules.proofs.InCellLaws.{inCell-start}
 use Rattle.rules.proofs.AppliedLaws.{applied-legal, applied-header, applied-runs}

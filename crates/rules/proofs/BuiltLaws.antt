@@ -17,7 +17,8 @@ use Rattle.rules.specs.declared.Verdict.the-variants.{Accepted}
 use borrow.Author.Tests.{leb-true}
 use Rattle.rules.proofs.VerdictLaws.{all-held}
 use Rattle.rules.proofs.OutcomeLaws.{built-accepted}
-use Rattle.rules.proofs.TableCodec.{heads-sound, table-legal, table-again, length-tableBytes}
+use Rattle.rules.proofs.TableCodec.{table-legal, table-again, length-tableBytes}
+use Rattle.rules.proofs.HeadsCodec.{heads-sound}
 
 pub record AcceptedHeads (heads : List ℕ) (room : ℕ) : Type 0 where
   pub legal : legalHeads heads ≡ true
@@ -34,7 +35,7 @@ heads-accepted heads room e =
 
 pub length-built : (heads : List ℕ) → length (tableBytes current (map emptyCell (headRuns heads))) ≡ headerSize + cellSize current * headCount heads
 length-built heads =
-    rw (length-tableBytes current (map emptyCell (headRuns heads)), length-map (headRuns heads) emptyCell, length-pieces headSize (headCount heads) heads)
+    rw (length-tableBytes current (map emptyCell (headRuns heads)), length-map (headRuns heads) emptyCell, length-pieces (headSize current) (headCount heads) heads)
 
 module _ (heads buffer : List ℕ) (b : Bytes heads) (e : built heads buffer .number ≡ 0) where
   accepted : AcceptedHeads heads (length buffer)
@@ -47,7 +48,7 @@ module _ (heads buffer : List ℕ) (b : Bytes heads) (e : built heads buffer .nu
       (take-sets-front buffer (tableBytes current (map emptyCell (headRuns heads))) (omega (arith, length-built heads, accepted .enough)))
 
   pub built-legal : tableVerdict current (take (built heads buffer .length) (built heads buffer .buffer)) ≡ Accepted
-  built-legal = rw built-bytes (table-legal current _ (heads-sound current heads b (accepted .legal)))
+  built-legal = rw built-bytes (table-legal current _ (heads-sound heads b (accepted .legal)))
 
   pub built-cells : cellsOf current (take (built heads buffer .length) (built heads buffer .buffer)) ≡ map emptyCell (headRuns heads)
-  built-cells = rw built-bytes (table-again current _ (heads-sound current heads b (accepted .legal)))
+  built-cells = rw built-bytes (table-again current _ (heads-sound heads b (accepted .legal)))

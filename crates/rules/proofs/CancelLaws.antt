@@ -14,7 +14,8 @@ use Rattle.rules.specs.Sound.{soundPlace, soundPlaces}
 use Rattle.rules.specs.InCell.{Told, Done, reported, reportedIfLive, cancel, restart, failure}
 use Rattle.rules.specs.declared.Request.{Request}
 use Rattle.rules.specs.declared.Place.{Place}
-use Rattle.rules.proofs.ListsLaws.{cond-either, by-test, or-else, every-cond, none-made, all-those, made-left}
+use Rattle.rules.proofs.ListsLaws.{every-cond, none-made, all-those, made-left}
+use Rattle.rules.proofs.TestLaws.{cond-either, by-test, or-else}
 use Rattle.rules.proofs.PlaceLaws.{text-facts, different-parts, keeps-cond}
 use Rattle.rules.proofs.SoundPlaceLaws.{none-sound, keeps-sound}
 

@@ -14,7 +14,7 @@ use Rattle.octets.specs.Fields.{size, numbers, bytesOf, Fit, none, field}
 use Rattle.octets.proofs.NumbersLaws.{length-toBe}
 use Rattle.octets.proofs.FieldsLaws.{numbers-bytesOf, bytesOf-numbers}
 use Rattle.rules.specs.Sound.{fits}
-use Rattle.rules.proofs.ListsLaws.{both, and-true}
+use Rattle.rules.proofs.TestLaws.{both, and-true}
 
 pub fits-Fit : (ws vs : List ℕ) → fits ws vs ≡ true → Fit ws vs
 unfolding fits

@@ -19,7 +19,8 @@ use Rattle.rules.specs.Refusals.{requestVerdict}
 use Rattle.rules.specs.declared.Request.{Request}
 use Rattle.rules.specs.declared.Place.{Place}
 use Rattle.rules.specs.declared.Verdict.the-variants.{Accepted}
-use Rattle.rules.proofs.ListsLaws.{cond-either, every-flatMap, every-cond}
+use Rattle.rules.proofs.ListsLaws.{every-flatMap, every-cond}
+use Rattle.rules.proofs.TestLaws.{cond-either}
 use Rattle.rules.proofs.KindAreaLaws.{kind-by}
 use Rattle.rules.proofs.VerdictLaws.{request-accepted}
 use Rattle.rules.proofs.SoundPlaceLaws.{SoundPlace, sound-facts, places-facts}

@@ -13,10 +13,11 @@ use Rattle.rules.specs.Table.{Head, Cell}
 use Rattle.rules.specs.Record.{itemEnd, areaFits, withinLimits}
 use Rattle.rules.specs.Reach.{names, reaches}
 use Rattle.rules.specs.Refusals.{firstOf, requestTests}
-use Rattle.rules.specs.Applied.{stepCell, cellRows}
+use Rattle.rules.specs.Applied.{stepCell}
+use Rattle.rules.specs.Reply.{cellRows}
 use Rattle.rules.specs.declared.Request.{Request}
 use Rattle.rules.specs.declared.Seconds.{Seconds}
-use Rattle.rules.proofs.ListsLaws.{by-test, or-else, else-or}
+use Rattle.rules.proofs.TestLaws.{by-test, or-else, else-or}
 use Rattle.rules.proofs.AllLaws.{all-of, map-all, flatMap-all}
 
 -- ---- members

@@ -1,21 +1,21 @@
 -- What holds of every kind, and of every area, holds of the one that a number names; and what the table of kinds allows.
 -- By the tests that `kindOf` and `areaOf` make, in order; callers need not unfold them.
 use mathlib.Core.Path.{_≡_, refl, sym, _∙_}
-use mathlib.Core.Bool.{true, false, _&&_, _||_, false≢true}
+use mathlib.Core.Bool.{true, false, _&&_, false≢true}
 use mathlib.Core.List.{List, [], _∷_}
 use Prim.Native.Nat.{ℕ, _≤_}
 use native.Mathlib.Omega.{arith}
 use lib.Dec.{eqb, leb}
-use borrow.Author.Tests.{eqb-true, leb-true, ne-eqb}
+use borrow.Author.Tests.{eqb-true, leb-true}
 use Rattle.rules.specs.Lists.{every, any, oneOf, zeros}
 use Rattle.rules.specs.Layout.{placesPerCell, emergencyEnd}
 use Rattle.rules.specs.Identity.{trackingItem}
 use Rattle.rules.specs.Table.{Head}
-use Rattle.rules.specs.Record.{writeReplace, cancelOrKill, restartKind, failureKind, oneSecond, Kind, aWriteReplace, aCancel, aRestart, aFailure, aSecond, unknownKind, kindOf, noArea, cellArea, trackingArea, emergencyArea, Area, everywhere, inCells, inTrackingAreas, inEmergencyAreas, unknownArea, areaOf, itemEndIn, itemEnd, anyArea, cancelZeros, identifierToSib, allowed, allowedBy, kindAllows}
+use Rattle.rules.specs.Record.{writeReplace, cancelOrKill, restartKind, failureKind, oneSecond, Kind, aWriteReplace, aCancel, aRestart, aFailure, aSecond, unknownKind, kindOf, noArea, cellArea, trackingArea, emergencyArea, Area, everywhere, inCells, inTrackingAreas, inEmergencyAreas, unknownArea, areaOf, itemEndIn, itemEnd, anyArea, identifierToSib, allowed, allowedBy, kindAllows}
 use Rattle.rules.specs.Reach.{namesIn, names}
-use Rattle.rules.specs.Answer.{rowsBy, rowsPerCell}
+use Rattle.rules.specs.Answer.{isKnown, rowsBy, rowsPerCell}
 use Rattle.rules.specs.declared.Request.{Request}
-use Rattle.rules.proofs.ListsLaws.{both, by-test, or-else, neither, cond-either}
+use Rattle.rules.proofs.TestLaws.{both, by-test, or-else, cond-either}
 
 -- ---- of the kind, or the area, that a number names
 
@@ -42,6 +42,14 @@ area-by P n all cells tracking emergency rest =
 pub item-end-other : (area : ℕ) → (area ≡ cellArea → ⊥) → (area ≡ trackingArea → ⊥) → itemEnd area ≡ emergencyEnd
 item-end-other area c t = area-by (λ a. itemEndIn a ≡ emergencyEnd) area (λ _. refl) (λ e. absurd (c e)) (λ e. absurd (t e)) (λ _. refl) refl
 
+pub known-kind : (k : Kind) → (k ≡ unknownKind → ⊥) → isKnown k ≡ true
+known-kind aWriteReplace h = refl
+known-kind aCancel h = refl
+known-kind aRestart h = refl
+known-kind aFailure h = refl
+known-kind aSecond h = refl
+known-kind unknownKind h = absurd (h refl)
+
 -- a known kind but a second has one row at most
 pub rows-other : (kind : ℕ) → (kindOf kind ≡ unknownKind → ⊥) → (kind ≡ oneSecond → ⊥) → rowsPerCell kind ≡ 1
 rows-other kind known no-second =
@@ -50,36 +58,16 @@ rows-other kind known no-second =
 pub rows-most : (kind : ℕ) → rowsPerCell kind ≤ placesPerCell
 rows-most kind = kind-by (λ k. rowsBy k ≤ placesPerCell) kind (λ _. omega arith) (λ _. omega arith) (λ _. omega arith) (λ _. omega arith) (λ _. omega arith) (omega arith)
 
--- ---- the table of kinds, row by row
+-- ---- the table of kinds
 
 module _ (q : Request) where
-  pub allowed-start : q .kind ≡ writeReplace → kindAllows q ≡ allowed q (0 ∷ 1 ∷ []) anyArea []
-  unfolding kindAllows
-  allowed-start k = rw k
-
-  pub allowed-cancel : q .kind ≡ cancelOrKill → kindAllows q ≡ allowed q (0 ∷ 2 ∷ 4 ∷ 6 ∷ []) anyArea (cancelZeros q)
-  unfolding kindAllows
-  allowed-cancel k = rw k
-
-  -- a restart and a failure have one row of the table
-  pub allowed-emptying : eqb (q .kind) restartKind || eqb (q .kind) failureKind ≡ true → kindAllows q ≡ allowed q (0 ∷ []) (noArea ∷ cellArea ∷ []) (identifierToSib q)
-  unfolding kindAllows
-  allowed-emptying e =
-      by-test (eqb (q .kind) restartKind) (λ r. rw (eqb-true (q .kind) restartKind r)) λ r.
-      rw (eqb-true (q .kind) failureKind (or-else (eqb (q .kind) restartKind) _ e r))
-
-  pub allowed-second : q .kind ≡ oneSecond → kindAllows q ≡ allowed q (0 ∷ []) (noArea ∷ []) (identifierToSib q)
+  allowed-second : q .kind ≡ oneSecond → kindAllows q ≡ allowed q (0 ∷ []) (noArea ∷ []) (identifierToSib q)
   unfolding kindAllows
   allowed-second k = rw k
 
   not-allowed : kindOf (q .kind) ≡ unknownKind → kindAllows q ≡ false
   unfolding kindAllows
   not-allowed k = rw k
-
-  pub allowed-unknown : (q .kind ≡ writeReplace → ⊥) → (q .kind ≡ cancelOrKill → ⊥) → eqb (q .kind) restartKind || eqb (q .kind) failureKind ≡ false → (q .kind ≡ oneSecond → ⊥) → kindAllows q ≡ false
-  allowed-unknown a b c d =
-      let n = neither (eqb (q .kind) restartKind) (eqb (q .kind) failureKind) c in
-      not-allowed (rw (ne-eqb (q .kind) writeReplace a, ne-eqb (q .kind) cancelOrKill b, n .0, n .1, ne-eqb (q .kind) oneSecond d))
 
 -- ---- what an allowed request has
 

@@ -1,35 +1,15 @@
--- Laws of the words for lists, and of tests joined by `&&`, `||` and `cond`.
--- Each goes by the list, or by the truth of one test.
-use mathlib.Core.Path.{_≡_, refl, sym}
-use mathlib.Core.Bool.{Bool, true, false, cond, not, _&&_, _||_, false≢true}
-use mathlib.Core.List.{List, [], _∷_, _++_, map, flatMap, map-append}
+-- Laws of the words for lists: every, any, those, and what is made of each element.
+-- Each goes by the list.
+use mathlib.Core.Path.{_≡_, refl}
+use mathlib.Core.Bool.{Bool, true, false, cond, not, false≢true}
+use mathlib.Core.List.{List, [], _∷_, _++_, flatMap}
 use Prim.Native.Nat.{ℕ, zero, suc, _+_, _≤_, _<_}
 use native.Mathlib.Omega.{arith}
 use lib.ListN.{length, getD, length-append, replicate}
 use borrow.Author.Tests.{eqb-true}
-use borrow.Author.Tests.{ltb-true, ltb-false}
 use lib.Dec.{eqb}
-use lib.Dec.{ltb}
-use Rattle.rules.specs.Lists.{larger}
 use Rattle.rules.specs.Lists.{every, any, those, zeros}
-
--- ---- tests
-
-pub both : (a b : Bool) → a && b ≡ true → (a ≡ true) × (b ≡ true)
-both true b e = (refl, e)
-both false b e = absurd (false≢true e)
-
-pub and-true : (a b : Bool) → a ≡ true → b ≡ true → a && b ≡ true
-and-true a b p q = rw (p, q)
-
-pub cond-cases : {A B : Type 0} (f : A → B) (b : Bool) (x y : A) → f (cond b x y) ≡ cond b (f x) (f y)
-cond-cases f true x y = refl
-cond-cases f false x y = refl
-
--- what holds of both answers to a test holds of the answer
-pub cond-either : {A : Type 0} (P : A → Type 0) (b : Bool) (x y : A) → (b ≡ true → P x) → (b ≡ false → P y) → P (cond b x y)
-cond-either P true x y p q = p refl
-cond-either P false x y p q = q refl
+use Rattle.rules.proofs.TestLaws.{both, and-true, by-test, or-else, else-or, neither}
 
 -- ---- every
 
@@ -62,31 +42,6 @@ pub replicate-zeros : (n : ℕ) → zeros (replicate n 0) ≡ true
 unfolding zeros every
 replicate-zeros zero = refl
 replicate-zeros (suc n) = replicate-zeros n
-
--- ---- cases
-
--- either way a test turns out
-pub by-test : {P : Type 0} (b : Bool) → (b ≡ true → P) → (b ≡ false → P) → P
-by-test true p q = p refl
-by-test false p q = q refl
-
-pub or-else : (a b : Bool) → a || b ≡ true → a ≡ false → b ≡ true
-or-else true b e n = absurd (false≢true (sym n))
-or-else false b e n = e
-
-pub else-or : (a b : Bool) → (a ≡ false → b ≡ true) → a || b ≡ true
-else-or true b k = refl
-else-or false b k = k refl
-
-pub neither : (a b : Bool) → a || b ≡ false → (a ≡ false) × (b ≡ false)
-neither true b e = absurd (false≢true (sym e))
-neither false b e = (refl, e)
-
-pub larger-left : (a b : ℕ) → a ≤ larger a b
-larger-left a b = cond-either (λ n. a ≤ n) (ltb a b) b a (λ e. omega (arith, ltb-true a b e)) (λ e. omega arith)
-
-pub larger-right : (a b : ℕ) → b ≤ larger a b
-larger-right a b = cond-either (λ n. b ≤ n) (ltb a b) b a (λ e. omega arith) (λ e. omega (arith, ltb-false a b e))
 
 -- ---- any
 
@@ -148,9 +103,6 @@ unfolding every
 every-cond f true x k = and-true (f x) true (k refl) refl
 every-cond f false x k = refl
 
-pub larger-most : (a b c : ℕ) → a ≤ c → b ≤ c → larger a b ≤ c
-larger-most a b c p q = cond-either (λ n. n ≤ c) (ltb a b) b a (λ e. q) (λ e. p)
-
 -- ---- where f holds of none
 
 pub none-made : {A B : Type 0} (f : A → Bool) (h : A → List B) (xs : List A) → any f xs ≡ false → flatMap (λ x. cond (f x) (h x) []) xs ≡ []
@@ -172,15 +124,3 @@ pub made-left : {A B : Type 0} (f : A → Bool) (h : A → B) (xs : List A) → 
 unfolding those flatMap
 made-left f h [] = refl
 made-left f h (x ∷ xs) = by-test (f x) (λ t. rw t (omega (arith, made-left f h xs))) (λ t. rw t (omega (arith, made-left f h xs)))
-
--- ---- joined
-
-pub flatMap-map : {A B C : Type 0} (f : B → List C) (g : A → B) (xs : List A) → flatMap f (map g xs) ≡ flatMap (λ x. f (g x)) xs
-unfolding flatMap
-flatMap-map f g [] = refl
-flatMap-map f g (x ∷ xs) = rw (flatMap-map f g xs)
-
-pub map-flatMap : {A B C : Type 0} (g : B → C) (f : A → List B) (xs : List A) → map g (flatMap f xs) ≡ flatMap (λ x. map g (f x)) xs
-unfolding flatMap
-map-flatMap g f [] = refl
-map-flatMap g f (x ∷ xs) = rw (map-append g (f x) (flatMap f xs), map-flatMap g f xs)

@@ -1,18 +1,19 @@
 -- What a legal place is in plain facts, and which places of a cell are alike: each operation that keeps or drops a place leaves no two alike.
 -- Tests are turned into facts and back; lists go place by place, by what the operation makes of one.
-use mathlib.Core.Path.{_≡_, refl, sym, ap}
-use mathlib.Core.Bool.{Bool, true, false, cond, not, _&&_, _||_}
+use mathlib.Core.Path.{_≡_, refl, sym, ap, _∙_}
+use mathlib.Core.Bool.{Bool, true, false, cond, not, _&&_, _||_, false≢true}
 use mathlib.Core.List.{List, [], _∷_, _++_, flatMap}
-use Prim.Native.Nat.{ℕ, _≤_, _<_}
+use Prim.Native.Nat.{ℕ, _+_, _*_, _≤_, _<_}
 use native.Mathlib.Omega.{arith}
 use lib.Dec.{eqb, ltb, leb}
 use lib.ListN.{length}
 use borrow.Author.Tests.{ltb-true, leb-true, eqb-true, eqb-false, not-true, lt-ltb, le-leb, eq-eqb, ne-eqb}
 use Rattle.rules.specs.Lists.{any, larger}
 use Rattle.rules.specs.Layout.{Version, longestPeriod, firstSib, lastSib}
-use Rattle.rules.specs.Table.{legalPlace, isText, running, different}
+use Rattle.rules.specs.Table.{legalPlace, isText, textOf, running, different}
 use Rattle.rules.specs.declared.Place.{Place}
-use Rattle.rules.proofs.ListsLaws.{both, by-test, or-else, else-or, neither, any-append, any-flatMap, few-flatMap}
+use Rattle.rules.proofs.ListsLaws.{any-append, any-flatMap, few-flatMap}
+use Rattle.rules.proofs.TestLaws.{both, by-test, or-else, else-or, neither}
 
 module _ (v : Version) where
   -- ---- a legal place
@@ -67,6 +68,17 @@ text-facts m s p e =
 pub facts-text : (m s : ℕ) (p : Place) → p .identifier ≡ m → p .serial ≡ s → isText m s p ≡ true
 unfolding isText
 facts-text m s p e f = rw (eq-eqb (p .identifier) m e, eq-eqb (p .serial) s f)
+
+abbrev pub Small : Place → Type 0
+Small p = p .serial < 65536
+
+-- one comparison tells both numbers
+pub same-text : (m s : ℕ) (p : Place) → s < 65536 → Small p → eqb (textOf p) (m * 65536 + s) ≡ isText m s p
+unfolding textOf
+same-text m s p hs hp =
+    by-test (isText m s p)
+    (λ t. let e = text-facts m s p t in rw t (eq-eqb (p .identifier * 65536 + p .serial) (m * 65536 + s) (rw (e .0, e .1))))
+    (λ t. rw t (ne-eqb (p .identifier * 65536 + p .serial) (m * 65536 + s) (λ e. false≢true (sym t ∙ facts-text m s p (omega arith) (omega arith)))))
 
 -- a place is as little alike to another as the other to it
 pub text-turned : (p r : Place) → isText (p .identifier) (p .serial) r ≡ false → isText (r .identifier) (r .serial) p ≡ false

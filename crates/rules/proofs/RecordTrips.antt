@@ -1,85 +1,35 @@
 -- Demand 2 on records: what the writer accepts reads back as that request, items included; what the reader accepts is written as the same bytes.
 -- By the inverses of RecordCodec; each test of the reader is one of the writer, or holds of every record written.
 use mathlib.Core.Path.{_≡_, sym, _∙_}
-use mathlib.Core.Bool.{Bool, true, cond, not, _&&_, _||_}
+use mathlib.Core.Bool.{Bool, true, not, _&&_, _||_}
 use mathlib.Core.List.{List, [], append-nil}
 use Prim.Native.Nat.{ℕ, zero, _+_, _*_, _^_, _≤_, _<_}
 use native.Mathlib.Omega.{arith}
 use lib.Dec.{eqb, ltb, leb}
 use lib.ListN.{length, getD, length-append}
-use borrow.Author.Tests.{ltb-true, leb-true, eqb-true, not-true, lt-ltb, le-leb, eq-eqb}
+use borrow.Author.Tests.{ltb-true, leb-true, lt-ltb, le-leb}
 use Rattle.octets.specs.Numbers.{toBe}
 use Rattle.octets.specs.Fields.{Fit, fieldOf}
 use Rattle.octets.proofs.PiecesLaws.{length-flatMap}
 use Rattle.octets.proofs.NumbersLaws.{length-toBe}
 use Rattle.octets.proofs.FieldsLaws.{length-bytesOf}
 use Rattle.rules.specs.Lists.{every}
-use Rattle.rules.specs.Layout.{Version, version1, version2, current, markField, recordFields, recordSize, itemSize, recordMark, mostItems, longestPeriod, firstSib, lastSib}
-use Rattle.rules.specs.Record.{writeReplace, versionIn, takesVersion, longestAsked, requestOf, requestNumbers, recordBytes, itemsOf, itemCount, zeroByte, recordMarked, kindAllows, areaFits, itemEndIn, itemEnd, withinLimits, cancelsNothing}
-use Rattle.rules.specs.Refusals.{refuseUnless, fewItems, recordTests, requestVerdict, recordVerdict, writeVerdict}
+use Rattle.rules.specs.Layout.{current, recordFields, recordSize, itemSize, mostItems, longestPeriod, firstSib, lastSib}
+use Rattle.rules.specs.Record.{writeReplace, requestOf, requestNumbers, recordBytes, itemsOf, itemCount, itemEndIn, itemEnd, withinLimits}
+use Rattle.rules.specs.Refusals.{refuseUnless, fewItems, requestVerdict, writeVerdict}
 use Rattle.rules.specs.Sound.{fits, fitRequest}
 use Rattle.rules.specs.declared.Seconds.{Seconds}
 use Rattle.rules.specs.declared.Request.{Request}
 use Rattle.rules.specs.declared.Refusal.the-variants.{RecordLength, ShortBuffer}
 use Rattle.rules.specs.declared.Verdict.the-variants.{Accepted}
-use Rattle.rules.proofs.ListsLaws.{both, cond-either}
+use Rattle.rules.proofs.TestLaws.{both}
 use Rattle.rules.proofs.AllLaws.{All, all-every, all-imply}
 use Rattle.rules.proofs.FitLaws.{fits-Fit}
 use Rattle.rules.proofs.LayoutLaws.{record-size}
 use Rattle.rules.proofs.KindAreaLaws.{area-by}
-use Rattle.rules.proofs.VerdictLaws.{then-accepted, unless-accepted, all-held, write-chain, request-accepted, accepted-request, allowed-longer}
+use Rattle.rules.proofs.VerdictLaws.{then-accepted, unless-accepted, write-chain, request-accepted}
 use Rattle.rules.proofs.RecordCodec.{field-again, request-again, items-again}
-
--- ---- what acceptance gives
-
--- by a unit of a version
-pub record AcceptedRecord (v : Version) (r : List ℕ) : Type 0 where
-  pub long : recordSize ≤ length r
-  pub mark : fieldOf recordFields markField r ≡ recordMark
-  pub version : takesVersion v (versionIn r) ≡ true
-  pub few : itemCount r ≤ mostItems
-  pub size : length r ≡ recordSize + itemSize * itemCount r
-  pub zero : zeroByte r ≡ 0
-  pub request : requestVerdict (longestAsked r) (requestOf r) (itemsOf r) ≡ Accepted
-
-pub record-accepted : (v : Version) (r : List ℕ) → recordVerdict v r ≡ Accepted → AcceptedRecord v r
-unfolding recordVerdict recordMarked
-record-accepted v r e =
-    let h = all-held (recordTests v r) e in
-    let f = both (eqb (zeroByte r) 0 && kindAllows (requestOf r)) (areaFits (requestOf r) (length (itemsOf r))) (h .1 .1 .0) in
-    let z = both (eqb (zeroByte r) 0) (kindAllows (requestOf r)) (f .0) in
-    let m₂ = both (leb recordSize (length r) && eqb (fieldOf recordFields markField r) recordMark) (takesVersion v (versionIn r)) (h .0) in
-    let m₁ = both (leb recordSize (length r)) (eqb (fieldOf recordFields markField r) recordMark) (m₂ .0) in
-    let l₁ = both (leb (itemCount r) mostItems) (eqb (length r) (recordSize + itemSize * itemCount r)) (h .1 .0) in
-    record {
-      long = leb-true recordSize (length r) (m₁ .0);
-      mark = eqb-true (fieldOf recordFields markField r) recordMark (m₁ .1);
-      version = m₂ .1;
-      few = leb-true (itemCount r) mostItems (l₁ .0);
-      size = eqb-true (length r) (recordSize + itemSize * itemCount r) (l₁ .1);
-      zero = eqb-true (zeroByte r) 0 (z .0);
-      request =
-          accepted-request (longestAsked r) (requestOf r) (itemsOf r)
-          (record {
-            kind = z .1;
-            area = f .1;
-            limits = h .1 .1 .1 .0;
-            some = not-true (cancelsNothing (requestOf r)) (h .1 .1 .1 .1 .0);
-          });
-    }
-
-pub accepted-record : (v : Version) (r : List ℕ) → AcceptedRecord v r → recordVerdict v r ≡ Accepted
-unfolding recordVerdict requestVerdict recordMarked
-accepted-record v r a =
-    rw (le-leb recordSize (length r) (a .long), eq-eqb _ _ (a .mark), a .version, le-leb _ _ (a .few), eq-eqb _ _ (a .size), eq-eqb _ _ (a .zero)) (a .request)
-
--- so no record asks for more than its unit allows
-asked : (v : Version) (n : ℕ) → takesVersion v n ≡ true → cond (eqb n 1) (longestPeriod version1) (longestPeriod version2) .0 ≤ longestPeriod v .0
-asked version1 n e = rw e (omega arith)
-asked version2 n e = cond-either (λ (x : Seconds). x .0 ≤ longestPeriod version2 .0) (eqb n 1) _ _ (λ _. omega arith) (λ _. omega arith)
-
-pub within-own : (v : Version) (r : List ℕ) → AcceptedRecord v r → requestVerdict (longestPeriod v) (requestOf r) (itemsOf r) ≡ Accepted
-within-own v r a = allowed-longer _ _ (requestOf r) (itemsOf r) (asked v (versionIn r) (a .version)) (a .request)
+use Rattle.rules.proofs.AcceptedRecordLaws.{AcceptedRecord}
 
 -- ---- a request that is written
 

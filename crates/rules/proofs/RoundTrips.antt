@@ -18,7 +18,8 @@ use Rattle.rules.specs.declared.Request.{Request}
 use Rattle.rules.specs.declared.Verdict.the-variants.{Accepted}
 use Rattle.rules.proofs.RecordCodec.{length-itemsOf}
 use Rattle.rules.proofs.RenewedLaws.{request-renewed, mark-renewed, version-renewed, zero-renewed, count-renewed, items-renewed, length-renewed, record-renewed}
-use Rattle.rules.proofs.RecordTrips.{AcceptedRecord, record-accepted, accepted-record, within-own, writing-accepted, accepted-writing, length-recordBytes, record-written, items-read, request-read}
+use Rattle.rules.proofs.RecordTrips.{writing-accepted, accepted-writing, length-recordBytes, record-written, items-read, request-read}
+use Rattle.rules.proofs.AcceptedRecordLaws.{AcceptedRecord, record-accepted, accepted-record, within-own}
 use Rattle.rules.proofs.OutcomeLaws.{written-accepted, read-accepted}
 
 pub record WrittenRecord (q : Request) (items buffer : List ℕ) : Type 0 where

@@ -5,20 +5,18 @@ use mathlib.Core.Bool.{Bool, true, false}
 use mathlib.Core.List.{List, [], _∷_, _++_, map, flatMap, append-nil}
 use Prim.Native.Nat.{ℕ, zero, suc, _≤_, _<_}
 use native.Mathlib.Omega.{arith}
-use lib.Dec.{eqb, ltb}
+use lib.Dec.{eqb, ltb, leb}
 use lib.ListN.{length, getD}
-use borrow.Author.Tests.{ltb-true, lt-ltb, eq-eqb, ne-eqb}
-use Rattle.rules.specs.Lists.{those, above, ascending}
+use borrow.Author.Tests.{ltb-true, lt-ltb, le-leb, eq-eqb, ne-eqb}
+use Rattle.rules.specs.Lists.{those, above, ascending, rising}
 use Rattle.rules.specs.Table.{Cell}
 use Rattle.rules.specs.Reach.{reaches}
-use Rattle.rules.specs.Answer.{Row}
 use Rattle.rules.specs.InCell.{inCell}
-use Rattle.rules.specs.Applied.{rowOf, cellRows}
+use Rattle.rules.specs.Reply.{rowBy, cellRows, Row, identities}
 use Rattle.rules.specs.Sound.{identityOfCell}
 use Rattle.rules.specs.declared.Request.{Request}
-use Rattle.rules.proofs.ListsLaws.{both, and-true, cond-either, by-test}
-use Rattle.rules.proofs.AllLaws.{All, none, more, all-imply, all-of, all-map}
-use Rattle.rules.proofs.JoinedLaws.{all-append, all-at}
+use Rattle.rules.proofs.TestLaws.{both, and-true, cond-either, by-test}
+use Rattle.rules.proofs.AllLaws.{All, none, more, every-all, all-imply, all-of, all-map, all-append, all-at}
 
 -- ---- ascending lists
 
@@ -65,11 +63,16 @@ pub own-rows : (q : Request) (items : List ℕ) (c : Cell) → All (λ w. w .ide
 unfolding cellRows
 own-rows q items c =
     cond-either (All (λ w. w .identity ≡ identityOfCell c)) (reaches (q .area) items (c .head)) _ _
-    (λ _. all-map (λ w. w .identity ≡ identityOfCell c) (rowOf c) (all-of (λ x. refl) (inCell q (c .places) .rows)))
+    (λ _. all-map (λ w. w .identity ≡ identityOfCell c) (rowBy c) (all-of (λ x. refl) (inCell q (c .places) .rows)))
     (λ _. none)
 
-abbrev identitiesOf : List Row → List ℕ
-identitiesOf rows = map (λ w. w .identity) rows
+-- rows of one identity, then rows of larger ones
+rise-append : (k : ℕ) {ws vs : List Row} → All (λ w. w .identity ≡ k) ws → All (λ w. k < w .identity) vs → rising (identities vs) ≡ true → rising (identities (ws ++ vs)) ≡ true
+unfolding rising
+rise-append k none over e = e
+rise-append k (more {x = w} {xs = ws} p ps) over e =
+    let low = all-append (all-imply (λ v s. le-leb (w .identity) (v .identity) (omega (arith, p, s))) ps) (all-imply (λ v s. le-leb (w .identity) (v .identity) (omega (arith, p, s))) over) in
+    and-true _ _ (every-all (leb (w .identity)) (all-map (λ x. leb (w .identity) x ≡ true) (λ v. v .identity) low)) (rise-append k ps over e)
 
 module _ (f : Cell → List Row) (own : (c : Cell) → All (λ w. w .identity ≡ identityOfCell c) (f c)) where
   -- the rows of later cells have larger identities
@@ -80,31 +83,36 @@ module _ (f : Cell → List Row) (own : (c : Cell) → All (λ w. w .identity �
 
   -- ---- at most one row for each cell: strictly
 
-  rows-above : (x : ℕ) {cs : List Cell} → All (λ c. length (f c) ≤ 1) cs → above x (map identityOfCell cs) ≡ true → above x (identitiesOf (flatMap f cs)) ≡ true
+  rows-above : (x : ℕ) {cs : List Cell} → All (λ c. length (f c) ≤ 1) cs → above x (map identityOfCell cs) ≡ true → above x (identities (flatMap f cs)) ≡ true
   unfolding above flatMap
   rows-above x none e = refl
   rows-above x (more {x = c} {xs = cs} l ls) e =
       let p = both (ltb x (identityOfCell c)) (above (identityOfCell c) (map identityOfCell cs)) e in
       go (f c) (own c) l (p .0) (rows-above (identityOfCell c) ls (p .1))
     where
-      go : (ws : List Row) → All (λ w. w .identity ≡ identityOfCell c) ws → length ws ≤ 1 → ltb x (identityOfCell c) ≡ true → above (identityOfCell c) (identitiesOf (flatMap f cs)) ≡ true
-          → above x (identitiesOf (ws ++ flatMap f cs)) ≡ true
-      go [] none n h k = above-lower x (identityOfCell c) (identitiesOf (flatMap f cs)) (omega (arith, ltb-true x (identityOfCell c) h)) k
-      go (w ∷ []) (more s none) n h k = rw s (and-true (ltb x (identityOfCell c)) (above (identityOfCell c) (identitiesOf (flatMap f cs))) h k)
+      go : (ws : List Row) → All (λ w. w .identity ≡ identityOfCell c) ws → length ws ≤ 1 → ltb x (identityOfCell c) ≡ true → above (identityOfCell c) (identities (flatMap f cs)) ≡ true
+          → above x (identities (ws ++ flatMap f cs)) ≡ true
+      go [] none n h k = above-lower x (identityOfCell c) (identities (flatMap f cs)) (omega (arith, ltb-true x (identityOfCell c) h)) k
+      go (w ∷ []) (more s none) n h k = rw s (and-true (ltb x (identityOfCell c)) (above (identityOfCell c) (identities (flatMap f cs))) h k)
       go (w ∷ v ∷ ws) s n h k = absurd (omega arith)
 
-  pub rows-ascend : {cs : List Cell} → All (λ c. length (f c) ≤ 1) cs → ascending (map identityOfCell cs) ≡ true → ascending (identitiesOf (flatMap f cs)) ≡ true
+  pub rows-ascend : {cs : List Cell} → All (λ c. length (f c) ≤ 1) cs → ascending (map identityOfCell cs) ≡ true → ascending (identities (flatMap f cs)) ≡ true
   unfolding ascending flatMap
   rows-ascend none e = refl
   rows-ascend (more {x = c} {xs = cs} l ls) e = go (f c) (own c) l (rows-above (identityOfCell c) ls e)
     where
-      go : (ws : List Row) → All (λ w. w .identity ≡ identityOfCell c) ws → length ws ≤ 1 → above (identityOfCell c) (identitiesOf (flatMap f cs)) ≡ true
-          → ascending (identitiesOf (ws ++ flatMap f cs)) ≡ true
-      go [] none n k = above-ascending (identityOfCell c) (identitiesOf (flatMap f cs)) k
+      go : (ws : List Row) → All (λ w. w .identity ≡ identityOfCell c) ws → length ws ≤ 1 → above (identityOfCell c) (identities (flatMap f cs)) ≡ true
+          → ascending (identities (ws ++ flatMap f cs)) ≡ true
+      go [] none n k = above-ascending (identityOfCell c) (identities (flatMap f cs)) k
       go (w ∷ []) (more s none) n k = rw s k
       go (w ∷ v ∷ ws) s n k = absurd (omega arith)
 
   -- ---- any number of rows for each cell
+
+  pub rows-rise : (cs : List Cell) → ascending (map identityOfCell cs) ≡ true → rising (identities (flatMap f cs)) ≡ true
+  unfolding rising flatMap ascending
+  rows-rise [] e = refl
+  rows-rise (c ∷ cs) e = rise-append (identityOfCell c) (own c) (rows-over (identityOfCell c) (cells-over (identityOfCell c) cs e)) (rows-rise cs (above-ascending (identityOfCell c) (map identityOfCell cs) e))
 
   -- those of one cell are all that it gives, in its order
   pub rows-of-cell : (cs : List Cell) → ascending (map identityOfCell cs) ≡ true → (k : ℕ) (d : Cell) → k < length cs

@@ -3,7 +3,7 @@
 use mathlib.Core.Path.{_≡_, ap, _∙_}
 use mathlib.Core.Bool.{true, false}
 use mathlib.Core.List.{List}
-use Prim.Native.Nat.{_+_, _-_, _≤_, _<_}
+use Prim.Native.Nat.{_+_, _≤_, _<_}
 use native.Mathlib.Omega.{arith}
 use lib.Dec.{ltb}
 use lib.ListN.{length}
@@ -15,7 +15,8 @@ use Rattle.rules.specs.InCell.{isDue, oneMore, oneLess, withCounts, late
 use Rattle.rules.specs.declared.Seconds.{Seconds}
 use Rattle.rules.specs.declared.Broadcasts.{Broadcasts}
 use Rattle.rules.specs.declared.Place.{Place}
-use Rattle.rules.proofs.ListsLaws.{cond-either, by-test, larger-left, larger-right, every-cond, few-flatMap, few-cond}
+use Rattle.rules.proofs.ListsLaws.{every-cond, few-flatMap, few-cond}
+use Rattle.rules.proofs.TestLaws.{cond-either, by-test, larger-left, larger-right}
 use Rattle.rules.proofs.PlaceLaws.{keeps-cond}
 use Rattle.rules.proofs.SoundPlaceLaws.{sound-facts, facts-sound, keeps-sound}
 

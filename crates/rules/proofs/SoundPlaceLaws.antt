@@ -13,7 +13,8 @@ use Rattle.rules.specs.Layout.{Version, secondsSize, placeFields, places
 use Rattle.rules.specs.Table.{placeNumbers, legalPlace, running, different}
 use Rattle.rules.specs.Sound.{fits, soundPlace, soundPlaces}
 use Rattle.rules.specs.declared.Place.{Place}
-use Rattle.rules.proofs.ListsLaws.{both, every-append, every-flatMap, larger-most}
+use Rattle.rules.proofs.ListsLaws.{every-append, every-flatMap}
+use Rattle.rules.proofs.TestLaws.{both, larger-most}
 use Rattle.rules.proofs.LayoutLaws.{longest-fits, longest-some}
 use Rattle.rules.proofs.PlaceLaws.{LegalPlace, legal-facts, facts-legal, Keeps, keeps-length, keeps-different, different-snoc}
 

@@ -19,7 +19,7 @@ use Rattle.rules.specs.declared.Request.{Request}
 use Rattle.rules.specs.declared.Place.{Place}
 use Rattle.rules.specs.declared.Seconds.{Seconds}
 use Rattle.rules.specs.declared.Broadcasts.{Broadcasts}
-use Rattle.rules.proofs.ListsLaws.{both, cond-either, or-else, neither, larger-right}
+use Rattle.rules.proofs.TestLaws.{both, cond-either, or-else, neither, larger-right}
 use Rattle.rules.proofs.LayoutLaws.{longest-some}
 use Rattle.rules.proofs.ZeroRulesHold.{zero-rules-hold}
 use Rattle.rules.proofs.SoundPlaceLaws.{fits-at, facts-sound, one-sound, snoc-sound}

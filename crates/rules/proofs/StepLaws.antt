@@ -14,13 +14,14 @@ use Rattle.rules.specs.Reach.{reaches}
 use Rattle.rules.specs.InCell.{inCell}
 use Rattle.rules.specs.Answer.{rowsPerCell}
 use Rattle.rules.specs.Refusals.{requestVerdict}
-use Rattle.rules.specs.Applied.{stepCell, cellRows, rowOf}
+use Rattle.rules.specs.Applied.{stepCell}
+use Rattle.rules.specs.Reply.{cellRows, rowBy}
 use Rattle.rules.specs.Sound.{fitRequest, soundHead, soundPlaces, soundCell, identityOfCell, soundCells}
 use Rattle.rules.specs.declared.Request.{Request}
 use Rattle.rules.specs.declared.Verdict.the-variants.{Accepted}
-use Rattle.rules.proofs.ListsLaws.{both, and-true, cond-either}
+use Rattle.rules.proofs.TestLaws.{both, and-true, cond-either}
 use Rattle.rules.proofs.AllLaws.{all-imply, all-map}
-use Rattle.rules.proofs.TableCodec.{sound-cells, cells-sound}
+use Rattle.rules.proofs.LegalTableLaws.{sound-cells, cells-sound}
 use Rattle.rules.proofs.InCellLaws.{inCell-sound, inCell-few}
 
 module _ (q : Request) (items : List ℕ) where
@@ -35,7 +36,7 @@ module _ (q : Request) (items : List ℕ) where
   unfolding stepCell
   step-unreached c e = rw e
 
-  pub rows-reached : (c : Cell) → reaches (q .area) items (c .head) ≡ true → cellRows q items c ≡ map (rowOf c) (inCell q (c .places) .rows)
+  pub rows-reached : (c : Cell) → reaches (q .area) items (c .head) ≡ true → cellRows q items c ≡ map (rowBy c) (inCell q (c .places) .rows)
   unfolding cellRows
   rows-reached c e = rw e
 
@@ -70,9 +71,9 @@ module _ (q : Request) (items : List ℕ) where
     pub step-sound : (c : Cell) → soundCell v c ≡ true → soundCell v (stepCell q items c) ≡ true
     unfolding stepCell soundCell
     step-sound c s =
-        let h = both (soundHead (c .head)) (soundPlaces v (c .places)) s in
+        let h = both (soundHead v (c .head)) (soundPlaces v (c .places)) s in
         cond-either (λ d. soundCell v d ≡ true) (reaches (q .area) items (c .head)) _ _
-        (λ _. and-true (soundHead (c .head)) _ (h .0) (inCell-sound v q items fit allowed (c .places) (h .1)))
+        (λ _. and-true (soundHead v (c .head)) _ (h .0) (inCell-sound v q items fit allowed (c .places) (h .1)))
         (λ _. s)
 
     pub steps-sound : (cs : List Cell) → soundCells v cs ≡ true → soundCells v (map (stepCell q items) cs) ≡ true
@@ -92,10 +93,10 @@ module _ (q : Request) (items : List ℕ) where
     pub rows-few : (c : Cell) → soundCell v c ≡ true → length (cellRows q items c) ≤ rowsPerCell (q .kind)
     unfolding cellRows soundCell
     rows-few c s =
-        let h = both (soundHead (c .head)) (soundPlaces v (c .places)) s in
+        let h = both (soundHead v (c .head)) (soundPlaces v (c .places)) s in
         let told = inCell q (c .places) .rows in
-        cond-either (λ l. length l ≤ rowsPerCell (q .kind)) (reaches (q .area) items (c .head)) (map (rowOf c) told) []
-        (λ _. rw (length-map told (rowOf c)) (inCell-few v q items fit allowed (c .places) (h .1)))
+        cond-either (λ l. length l ≤ rowsPerCell (q .kind)) (reaches (q .area) items (c .head)) (map (rowBy c) told) []
+        (λ _. rw (length-map told (rowBy c)) (inCell-few v q items fit allowed (c .places) (h .1)))
         (λ _. omega arith)
 
     pub all-rows-few : (cs : List Cell) → every (soundCell v) cs ≡ true → length (flatMap (cellRows q items) cs) ≤ rowsPerCell (q .kind) * length cs

@@ -9,18 +9,18 @@ use lib.Dec.{eqb, ltb, leb}
 use lib.ListN.{length}
 use borrow.Author.Tests.{not-true, leb-true, le-leb}
 use Rattle.rules.specs.Lists.{every}
-use Rattle.rules.specs.Layout.{Version, version1, current, longestPeriod, headerSize, cellSize, recordSize, itemSize, firstSib, lastSib}
+use Rattle.rules.specs.Layout.{Version, current, longestPeriod, headerSize, cellSize, recordSize, itemSize, firstSib, lastSib}
 use Rattle.rules.specs.Table.{cellCount}
 use Rattle.rules.specs.Record.{requestOf, itemEnd, writeReplace, kindAllows, areaFits, withinLimits, cancelsNothing}
 use Rattle.rules.specs.Answer.{roomFor}
-use Rattle.rules.specs.Refusals.{refuseUnless, _then_, Test, test, firstOf, Held, fewItems, fitsIn, headCount, legalHeads, tableTests, requestTests, recordTests, tableVerdict, requestVerdict, recordVerdict, writeVerdict, applyVerdict, buildVerdict, convertVerdict}
+use Rattle.rules.specs.Refusals.{refuseUnless, _then_, Test, test, firstOf, Held, fewItems, fitsIn, headCount, legalHeads, tableTests, olderTests, requestTests, recordTests, tableVerdict, olderVerdict, requestVerdict, recordVerdict, writeVerdict, applyVerdict, buildVerdict, convertVerdict}
 use Rattle.rules.specs.declared.Seconds.{Seconds}
 use Rattle.rules.specs.declared.Request.{Request}
 use Rattle.rules.specs.declared.Refusal.{Refusal}
 use Rattle.rules.specs.declared.Refusal.the-variants.{RecordLength, ShortBuffer, BadHeads}
 use Rattle.rules.specs.declared.Verdict.{Verdict}
 use Rattle.rules.specs.declared.Verdict.the-variants.{Accepted, Refused}
-use Rattle.rules.proofs.ListsLaws.{both, or-else, else-or}
+use Rattle.rules.proofs.TestLaws.{both, or-else, else-or}
 
 -- ---- tests in order
 
@@ -68,16 +68,16 @@ write-chain q items room =
     ∙ then-assoc (refuseUnless (fewItems (length items)) RecordLength) (firstOf asked) _
 
 pub apply-chain : (v : Version) (t r : List ℕ) (room : ℕ)
-    → applyVerdict v t r room ≡ tableVerdict v t then recordVerdict v r then refuseUnless (fitsIn (roomFor (requestOf r .kind) (cellCount t)) room) ShortBuffer
+    → applyVerdict v t r room ≡ tableVerdict v t then recordVerdict v r then refuseUnless (fitsIn (roomFor v (requestOf r .kind) (cellCount t)) room) ShortBuffer
 unfolding applyVerdict tableVerdict recordVerdict
 apply-chain v t r room =
-    first-append (tableTests v t) (recordTests v r ++ (test (fitsIn (roomFor (requestOf r .kind) (cellCount t)) room) ShortBuffer ∷ []))
-    ∙ ap (λ w. firstOf (tableTests v t) then w) (first-last (recordTests v r) (fitsIn (roomFor (requestOf r .kind) (cellCount t)) room) ShortBuffer)
+    first-append (tableTests v t) (recordTests v r ++ (test (fitsIn (roomFor v (requestOf r .kind) (cellCount t)) room) ShortBuffer ∷ []))
+    ∙ ap (λ w. firstOf (tableTests v t) then w) (first-last (recordTests v r) (fitsIn (roomFor v (requestOf r .kind) (cellCount t)) room) ShortBuffer)
 
 pub convert-chain : (old : List ℕ) (room : ℕ)
-    → convertVerdict old room ≡ tableVerdict version1 old then refuseUnless (fitsIn (headerSize + cellSize current * cellCount old) room) ShortBuffer
-unfolding convertVerdict tableVerdict
-convert-chain old room = first-last (tableTests version1 old) (fitsIn (headerSize + cellSize current * cellCount old) room) ShortBuffer
+    → convertVerdict old room ≡ olderVerdict old then refuseUnless (fitsIn (headerSize + cellSize current * cellCount old) room) ShortBuffer
+unfolding convertVerdict olderVerdict
+convert-chain old room = first-last (olderTests old) (fitsIn (headerSize + cellSize current * cellCount old) room) ShortBuffer
 
 pub build-chain : (heads : List ℕ) (room : ℕ)
     → buildVerdict heads room ≡ refuseUnless (legalHeads heads) BadHeads then refuseUnless (fitsIn (headerSize + cellSize current * headCount heads) room) ShortBuffer

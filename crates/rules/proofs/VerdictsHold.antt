@@ -6,12 +6,12 @@ use mathlib.Core.List.{List, [], _∷_, _++_}
 use Prim.Native.Nat.{ℕ}
 use native.Mathlib.Omega.{arith}
 use Rattle.rules.specs.Lists.{ascending, above}
-use Rattle.rules.specs.Refusals.{Test, test, firstOf, Held, FailsFirst, Exact, VerdictsHold, tableVerdict, recordVerdict, writeVerdict, applyVerdict, buildVerdict, convertVerdict}
+use Rattle.rules.specs.Refusals.{Test, test, firstOf, Held, FailsFirst, Exact, VerdictsHold, tableVerdict, olderVerdict, recordVerdict, writeVerdict, applyVerdict, buildVerdict, convertVerdict}
 use Rattle.rules.specs.declared.Refusal.{Refusal}
 use Rattle.rules.specs.declared.Refusal.the-variants.{TableMark}
 use Rattle.rules.specs.declared.Verdict.{Verdict}
 use Rattle.rules.specs.declared.Verdict.the-variants.{Accepted, Refused}
-use Rattle.rules.proofs.ListsLaws.{by-test}
+use Rattle.rules.proofs.TestLaws.{by-test}
 use Rattle.rules.proofs.VerdictLaws.{all-held}
 
 -- ---- refused
@@ -69,10 +69,11 @@ first-exact ts =
     }
 
 pub verdicts-hold : VerdictsHold
-unfolding tableVerdict recordVerdict writeVerdict applyVerdict buildVerdict convertVerdict ascending above
+unfolding tableVerdict olderVerdict recordVerdict writeVerdict applyVerdict buildVerdict convertVerdict ascending above
 verdicts-hold =
     record {
       table = λ v t. (first-exact _, refl);
+      older = λ old. (first-exact _, refl);
       read = λ v r. (first-exact _, refl);
       write = λ q items room. (first-exact _, refl);
       apply = λ v t r room. (first-exact _, refl);

@@ -1,44 +1,45 @@
--- A record does the same under both versions of the unit, unless it says version 2; and renewed it does what it did, unless only version 2 knows its period.
--- Of a record's tests only two depend on a version: whether its own is taken, and the longest period.
-use mathlib.Core.Path.{_≡_, refl}
+-- A record does the same in a unit of any version and in today's, if both take its version or neither does; and renewed it does what it did, if its own version knows its period.
+-- Of a record's tests only two depend on a version: whether its own is taken, and the longest period. The cells that two units decode are the same.
+use mathlib.Core.Path.{_≡_, refl, sym, ap, _∙_}
 use mathlib.Core.Bool.{true, false, false≢true, _&&_}
-use mathlib.Core.List.{List}
+use mathlib.Core.List.{List, map}
 use Prim.Native.Nat.{ℕ, _+_, _≤_, _<_}
 use native.Mathlib.Omega.{arith}
 use lib.Dec.{eqb, leb}
 use lib.ListN.{length, take, drop, getD, length-append, length-take, length-drop}
-use borrow.Author.Tests.{leb-true, leb-false, le-leb, lt-leb, eqb-true, ne-eqb}
+use borrow.Author.Tests.{leb-true, leb-false, le-leb, lt-leb, eqb-true}
 use Rattle.octets.specs.Runs.{Bytes}
 use Rattle.octets.proofs.NumbersLaws.{length-toBe}
 use Rattle.rules.specs.Lists.{zeros, oneOf}
-use Rattle.rules.specs.Layout.{Version, version1, version2, versionNumber, current, longestPeriod, recordSize, recordVersion}
+use Rattle.rules.specs.Layout.{Version, version1, version2, versionNumber, versionOf, current, longestPeriod, recordSize, recordVersion}
+use Rattle.rules.specs.Table.{cellCount, tableBytes}
 use Rattle.rules.specs.Record.{Kind, requestOf, itemsOf, versionIn, takesVersion, recordMarked, renewed, longestAsked, allowed, allowedBy, kindAllows, withinLimits}
-use Rattle.rules.specs.Refusals.{_then_, tableVerdict, requestVerdict, recordVerdict, applyVerdict}
-use Rattle.rules.specs.Applied.{Outcome, converted, outcome, applied}
+use Rattle.rules.specs.Answer.{Answer, rowBytes, answerHead, answerBytes, roomFor}
+use Rattle.rules.specs.Refusals.{_then_, fitsIn, tableVerdict, requestVerdict, recordVerdict, applyVerdict}
+use Rattle.rules.specs.Applied.{converted, stepCell, answered, outcome, applied}
 use Rattle.rules.specs.declared.Request.{Request}
 use Rattle.rules.specs.declared.Seconds.{Seconds}
 use Rattle.rules.specs.declared.Refusal.{Refusal}
 use Rattle.rules.specs.declared.Refusal.the-variants.{RecordMark}
 use Rattle.rules.specs.declared.Verdict.{Verdict}
 use Rattle.rules.specs.declared.Verdict.the-variants.{Accepted, Refused}
-use Rattle.rules.proofs.ListsLaws.{both, by-test, cond-either}
-use Rattle.rules.proofs.AllLaws.{all-every}
-use Rattle.rules.proofs.JoinedLaws.{all-at}
+use Rattle.rules.proofs.TestLaws.{both, and-true, by-test}
+use Rattle.rules.proofs.AllLaws.{all-every, all-at}
 use Rattle.rules.proofs.StartLaws.{write-limits}
 use Rattle.rules.proofs.KindAreaLaws.{kind-by}
 use Rattle.rules.proofs.VerdictLaws.{request-accepted, apply-chain}
-use Rattle.rules.proofs.RecordTrips.{record-accepted, within-own}
-use Rattle.rules.proofs.ConvertedLaws.{converted-legal, converted-count, applied-converted}
+use Rattle.rules.proofs.AcceptedRecordLaws.{record-accepted}
+use Rattle.rules.proofs.LayoutLaws.{number-most, longest-most}
+use Rattle.rules.proofs.AppliedLaws.{applied-table, applied-cells, applied-legal}
+use Rattle.rules.proofs.ConvertedLaws.{converted-by, converted-cells, converted-legal, converted-count, bytes-converted}
 use Rattle.rules.proofs.RenewedLaws.{request-renewed, mark-renewed, version-renewed, zero-renewed, count-renewed, items-renewed, length-renewed}
 
 -- ---- the same record in both units
 
-taken-alike : (n : ℕ) → (n ≡ versionNumber version2 → ⊥) → takesVersion version2 n ≡ takesVersion version1 n
-taken-alike n h = rw (ne-eqb n 2 h) (by-test (eqb n 1) (λ e. rw e) (λ e. rw e))
-
-pub verdict-alike : (r : List ℕ) → (versionIn r ≡ versionNumber version2 → ⊥) → recordVerdict version2 r ≡ recordVerdict version1 r
+-- both take its version, or neither does
+pub verdict-alike : (v : Version) (r : List ℕ) → takesVersion current (versionIn r) ≡ takesVersion v (versionIn r) → recordVerdict current r ≡ recordVerdict v r
 unfolding recordVerdict recordMarked
-verdict-alike r h = rw (taken-alike (versionIn r) h)
+verdict-alike v r h = rw h
 
 -- ---- a record and its renewed form
 
@@ -68,8 +69,18 @@ module _ (r : List ℕ) (taken : takesVersion current (versionIn r) ≡ true) (k
   long-verdict : recordSize ≤ length r → recordVerdict current (renewed r) ≡ recordVerdict current r
   unfolding recordVerdict recordMarked
   long-verdict long =
-      let wide : longestAsked r .0 ≤ longestPeriod version2 .0 = cond-either (λ (n : Seconds). n .0 ≤ longestPeriod version2 .0) (eqb (versionIn r) 1) _ _ (λ e. omega arith) (λ e. omega arith) in
-      rw (length-renewed r long, mark-renewed r long, version-renewed r long, taken, count-renewed r long, zero-renewed r long, request-renewed r long, items-renewed r long, limits-alike (longestPeriod version2) (longestAsked r) (requestOf r) (itemsOf r) (omega arith) known)
+      let wide : longestAsked r .0 ≤ longestPeriod current .0 = longest-most (versionOf (versionIn r)) in
+      rw (
+        length-renewed r long,
+        mark-renewed r long,
+        version-renewed r long,
+        taken,
+        count-renewed r long,
+        zero-renewed r long,
+        request-renewed r long,
+        items-renewed r long,
+        limits-alike (longestPeriod current) (longestAsked r) (requestOf r) (itemsOf r) (omega arith) known,
+      )
 
   pub applied-renewed : (t a : List ℕ) → applied current t (renewed r) a ≡ applied current t r a
   unfolding applied
@@ -100,37 +111,63 @@ short-period v q items e =
     (λ h. absurd (false≢true h))
     (a .kind)
 
--- says version 1, and has a period that it knows: 0 if it is no start
-module _ (r : List ℕ) (e : recordVerdict version1 r ≡ Accepted) where
-  pub older-version : versionIn r ≡ versionNumber version1
-  older-version = eqb-true (versionIn r) 1 (record-accepted version1 r e .version)
+-- what a unit accepts says a version that it takes, and has a period that this version knows: 0 if it is no start
+module _ (v : Version) (r : List ℕ) (e : recordVerdict v r ≡ Accepted) where
+  pub taken-version : takesVersion v (versionIn r) ≡ true
+  taken-version = record-accepted v r e .version
 
-  pub older-period : requestOf r .period .0 ≤ longestPeriod version1 .0
-  older-period = short-period version1 (requestOf r) (itemsOf r) (within-own version1 r (record-accepted version1 r e))
+  pub asked-period : requestOf r .period .0 ≤ longestAsked r .0
+  asked-period = short-period (versionOf (versionIn r)) (requestOf r) (itemsOf r) (record-accepted v r e .request)
 
--- what today's unit accepts has a period that its own version knows
-pub asked-period : (r : List ℕ) → recordVerdict current r ≡ Accepted → requestOf r .period .0 ≤ longestAsked r .0
-asked-period r e =
-    let a = record-accepted current r e .request in
-    by-test (eqb (versionIn r) 1)
-    (λ x. rw x (short-period version1 (requestOf r) (itemsOf r) (rw x at a)))
-    (λ x. rw x (short-period version2 (requestOf r) (itemsOf r) (rw x at a)))
+-- today's unit takes it too
+pub still-taken : (v : Version) (n : ℕ) → takesVersion v n ≡ true → takesVersion current n ≡ true
+still-taken v n e =
+    let h = both (leb 1 n) (leb n (versionNumber v)) e in
+    and-true (leb 1 n) (leb n (versionNumber current)) (h .0) (le-leb n (versionNumber current) (omega (arith, leb-true n (versionNumber v) (h .1), number-most v)))
 
 -- ---- any call on a converted table
 
--- an outcome of version 1, with its table converted
-abbrev pub carriedOver : Outcome → Outcome
-carriedOver o = record { number = o .number; length = o .length; table = converted (o .table); answer = o .answer }
+-- a unit of a version and today's get the same record, each with a buffer of its own: both have the room that they ask for, or neither has
+module _ (v : Version) (t : List ℕ) (bytes : Bytes t) (legal : tableVerdict v t ≡ Accepted) (r : List ℕ) where
+  -- what is told does not depend on the version
+  pub answered-alike : answered current (converted t) r ≡ answered v t r
+  answered-alike = rw (converted-cells v t legal bytes)
 
-module _ (t : List ℕ) (bytes : Bytes t) (legal : tableVerdict version1 t ≡ Accepted) (r a : List ℕ) (br : Bytes r) (older : versionIn r ≡ versionNumber version2 → ⊥) where
-  apply-alike : applyVerdict current (converted t) r (length a) ≡ applyVerdict version1 t r (length a)
-  apply-alike = rw (apply-chain current (converted t) r (length a), apply-chain version1 t r (length a), legal, converted-legal t bytes legal, verdict-alike r older, converted-count t bytes legal)
+  module _ (a b : List ℕ) (taken : takesVersion current (versionIn r) ≡ takesVersion v (versionIn r))
+      (room : fitsIn (roomFor current (requestOf r .kind) (cellCount t)) (length b) ≡ fitsIn (roomFor v (requestOf r .kind) (cellCount t)) (length a)) where
+    pub apply-alike : applyVerdict current (converted t) r (length b) ≡ applyVerdict v t r (length a)
+    apply-alike =
+        rw (apply-chain current (converted t) r (length b), apply-chain v t r (length a), legal, converted-legal v t legal bytes, verdict-alike v r taken, converted-count v t legal bytes, room)
 
-  -- accepted or refused
-  pub applied-alike : applied current (converted t) r a ≡ carriedOver (applied version1 t r a)
-  unfolding applied outcome
-  applied-alike = go (applyVerdict version1 t r (length a)) refl
-    where
-      go : (w : Verdict) → applyVerdict version1 t r (length a) ≡ w → applied current (converted t) r a ≡ carriedOver (applied version1 t r a)
-      go Accepted e = applied-converted t bytes legal r a br (rw e)
-      go (Refused x) e = rw (apply-alike, e)
+    pub number-alike : applied current (converted t) r b .number ≡ applied v t r a .number
+    unfolding applied outcome
+    number-alike = rw apply-alike (same (applyVerdict v t r (length a)))
+      where
+        same : (w : Verdict) → outcome current w (requestOf r) (itemsOf r) (converted t) b .number ≡ outcome v w (requestOf r) (itemsOf r) t a .number
+        same Accepted = refl
+        same (Refused x) = refl
+
+    -- accepted or refused: the table that the older unit leaves, converted
+    pub table-alike : Bytes r → applied current (converted t) r b .table ≡ converted (applied v t r a .table)
+    unfolding applied outcome
+    table-alike br = go (applyVerdict v t r (length a)) refl
+      where
+        go : (w : Verdict) → applyVerdict v t r (length a) ≡ w → applied current (converted t) r b .table ≡ converted (applied v t r a .table)
+        go (Refused x) e = rw (apply-alike, e)
+        go Accepted e =
+            applied-table current (converted t) r b (bytes-converted v t legal bytes) br (apply-alike ∙ e)
+            ∙ ap (λ cs. tableBytes current (map (stepCell (requestOf r) (itemsOf r)) cs)) (converted-cells v t legal bytes)
+            ∙ sym (ap (tableBytes current) (applied-cells v t r a bytes br e))
+            ∙ sym (converted-by v (applied v t r a .table) (applied-legal v t r a bytes br e))
+
+-- ---- document 02, 3/13, left the answer as it was: these two hold as long as its layout is the same in every version
+
+pub answer-stays : (v : Version) (w : Answer) → answerBytes v w ≡ answerBytes current w
+unfolding answerBytes answerHead rowBytes
+answer-stays version1 w = refl
+answer-stays version2 w = refl
+
+pub room-stays : (v : Version) (kind cells : ℕ) → roomFor v kind cells ≡ roomFor current kind cells
+unfolding roomFor
+room-stays version1 kind cells = refl
+room-stays version2 kind cells = refl

@@ -1,18 +1,19 @@
 -- What each entry point leaves behind, whole: the number, the length and every byte of every lent buffer.
 use mathlib.Core.Bool.{cond}
-use mathlib.Core.List.{List, [], map, flatMap}
+use mathlib.Core.List.{List, [], map}
 use Prim.Native.Nat.{ℕ, _+_, _*_}
 use lib.Dec.{leb}
 use lib.ListN.{length}
 use lib.Seq.{sets}
 use Rattle.octets.specs.Runs.{gets}
 use Rattle.octets.specs.Numbers.{be}
-use Rattle.rules.specs.Layout.{Version, version1, current, recordSize, itemSize}
-use Rattle.rules.specs.Table.{Cell, headOf, cellOf, cellBytes, cellsOf, tableBytes}
+use Rattle.rules.specs.Layout.{Version, current, recordSize, itemSize}
+use Rattle.rules.specs.Table.{Cell, headOf, cellOf, cellBytes, cellsOf, tableBytes, ownVersion}
 use Rattle.rules.specs.Record.{requestOf, itemCount, itemsOf, recordBytes}
 use Rattle.rules.specs.Reach.{reaches}
-use Rattle.rules.specs.InCell.{Told, inCell}
-use Rattle.rules.specs.Answer.{Row, answerBytes}
+use Rattle.rules.specs.InCell.{inCell}
+use Rattle.rules.specs.Reply.{replyOf}
+use Rattle.rules.specs.Answer.{Answer, answerTo, answerBytes}
 use Rattle.rules.specs.Refusals.{numberOf, writingNumber, writingLength, headRuns, recordVerdict, writeVerdict, applyVerdict, buildVerdict, convertVerdict}
 use Rattle.rules.specs.declared.Request.{Request}
 use Rattle.rules.specs.declared.Writing.{Writing}
@@ -38,15 +39,15 @@ abbrev pub filledBy : Writing → List ℕ → Filled
 filledBy x buffer = record { number = writingNumber x; length = writingLength x; buffer = buffer }
 
 unfoldable pub emptyCell : List ℕ → Cell
-emptyCell b = record { head = headOf b; places = [] }
+emptyCell b = record { head = headOf current b; places = [] }
 
 -- "from cell heads back to back .. an empty table"
 unfoldable pub built : List ℕ → List ℕ → Filled
 built heads buffer = fill (buildVerdict heads (length buffer)) (tableBytes current (map emptyCell (headRuns heads))) buffer
 
--- a version 1 table in the current layout: the same cells
+-- a table of an older version in the current layout: the same cells
 unfoldable pub converted : List ℕ → List ℕ
-converted old = tableBytes current (cellsOf version1 old)
+converted old = tableBytes current (cellsOf (ownVersion old) old)
 
 unfoldable pub conversion : List ℕ → List ℕ → Filled
 conversion old buffer = fill (convertVerdict old (length buffer)) (converted old) buffer
@@ -105,13 +106,6 @@ unfoldable pub cellAfter : Version → Request → List ℕ → List ℕ → Lis
 cellAfter v q items c =
     cond (reaches (q .area) items (cellOf v c .head)) (cellBytes v (stepCell q items (cellOf v c))) c
 
-abbrev pub rowOf : Cell → Told → Row
-rowOf c x = record { identity = c .head .identity; count = x .count; content = x .content }
-
--- and only a reached cell is reported
-unfoldable pub cellRows : Request → List ℕ → Cell → List Row
-cellRows q items c = cond (reaches (q .area) items (c .head)) (map (rowOf c) (inCell q (c .places) .rows)) []
-
 pub record Outcome : Type 0 where
   pub number : ℕ
   pub length : ℕ
@@ -122,11 +116,15 @@ pub record Outcome : Type 0 where
 abbrev pub outcomeBy : Writing → List ℕ → List ℕ → Outcome
 outcomeBy x t a = record { number = writingNumber x; length = writingLength x; table = t; answer = a }
 
--- refused: both buffers as they were; accepted: the cells after the rule, and the answer at the start of its buffer
+-- what an accepted call is told
+abbrev pub answered : Version → List ℕ → List ℕ → Answer
+answered v t r = answerTo (requestOf r) (replyOf (requestOf r) (itemsOf r) (cellsOf v t))
+
+-- refused: both buffers as they were; accepted: the cells after the rule, and their reply, as an answer, at the start of its buffer
 unfoldable pub outcome : Version → Verdict → Request → List ℕ → List ℕ → List ℕ → Outcome
 outcome v (Refused x) q items t a = record { number = numberOf x; length = 0; table = t; answer = a }
 outcome v Accepted q items t a =
-    let bs = answerBytes q (flatMap (cellRows q items) (cellsOf v t)) in
+    let bs = answerBytes v (answerTo q (replyOf q items (cellsOf v t))) in
     record {
       number = 0;
       length = length bs;

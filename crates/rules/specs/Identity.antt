@@ -2,6 +2,7 @@
 use mathlib.Core.Bool.{cond, _&&_}
 use Prim.Native.Nat.{ℕ, _+_, _*_, _/_, _%_, _^_}
 use lib.Dec.{ltb}
+use Rattle.rules.specs.declared.CellIdentity.{CellIdentity}
 use Rattle.rules.specs.declared.MadeIdentity.{MadeIdentity}
 use Rattle.rules.specs.declared.MadeIdentity.the-variants.{Identity, TooLarge}
 
@@ -13,6 +14,10 @@ partEnd = 2 ^ 36
 
 abbrev pub codeEnd : ℕ
 codeEnd = 2 ^ 24
+
+-- the one number by which cells are known and ordered
+abbrev pub identityNumber : CellIdentity → ℕ
+identityNumber x = x .0
 
 abbrev pub identityOf : ℕ → ℕ → ℕ
 identityOf plmn part = plmn * partEnd + part

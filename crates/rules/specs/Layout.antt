@@ -1,7 +1,8 @@
 -- Every width, size, limit and mark of documents 01 and 02, once. A layout is the list of its fields' widths, in order; offsets follow from it.
--- Beside each layout its fields have names, counted from 0.
+use mathlib.Core.Bool.{Bool, cond, _&&_}
 use mathlib.Core.List.{List, [], _∷_}
 use Prim.Native.Nat.{ℕ, _+_, _*_, _^_}
+use lib.Dec.{eqb, ltb, leb}
 use Rattle.rules.specs.declared.Seconds.{Seconds}
 
 -- a table, a record and an answer begin with their mark and version
@@ -10,6 +11,31 @@ markField = 0
 
 abbrev pub versionField : ℕ
 versionField = 1
+
+-- ---- versions
+
+-- document 02, 3/13: two versions of tables and records. Whatever depends on one is a function of it: a width, a size or a limit has a case for
+-- each, and a field that a version does not have is of width 0 in it, which is read as 0 and written as nothing
+pub data Version : Type 0 where
+  version1 : Version
+  version2 : Version
+
+-- the one that is built, and that requests are applied to
+abbrev pub current : Version
+current = version2
+
+-- what stands in a header, and in a record
+abbrev pub versionNumber : Version → ℕ
+versionNumber version1 = 1
+versionNumber version2 = 2
+
+-- and back, for the numbers of versions
+abbrev pub versionOf : ℕ → Version
+versionOf n = cond (eqb n 1) version1 version2
+
+-- the number of a version that is older than the current one
+abbrev pub isOlder : ℕ → Bool
+isOlder n = leb 1 n && ltb n (versionNumber current)
 
 -- ---- the table
 
@@ -27,8 +53,8 @@ abbrev pub zeroInHeader : ℕ
 zeroInHeader = 4
 
 -- NR CGI; tracking area code; number of emergency areas; four emergency area identifiers
-abbrev pub headFields : List ℕ
-headFields = 8 ∷ 3 ∷ 1 ∷ 3 ∷ 3 ∷ 3 ∷ 3 ∷ []
+abbrev pub headFields : Version → List ℕ
+headFields v = 8 ∷ 3 ∷ 1 ∷ 3 ∷ 3 ∷ 3 ∷ 3 ∷ []
 
 abbrev pub identityInHead : ℕ
 identityInHead = 0
@@ -41,20 +67,6 @@ areasUsedInHead = 2
 
 abbrev pub areasInHead : ℕ
 areasInHead = 3
-
--- document 02, 3/13: two versions. Beside their number they differ in the bytes of a period and of a wait and in the longest period
-pub data Version : Type 0 where
-  version1 : Version
-  version2 : Version
-
--- the one that is built, and that requests are applied to
-abbrev pub current : Version
-current = version2
-
--- what stands in a header, and in a record
-abbrev pub versionNumber : Version → ℕ
-versionNumber version1 = 1
-versionNumber version2 = 2
 
 -- the bytes of a period and of a wait
 abbrev pub secondsSize : Version → ℕ
@@ -108,15 +120,16 @@ mostAreas = 4
 abbrev pub headerSize : ℕ
 headerSize = 16
 
-abbrev pub headSize : ℕ
-headSize = 24
+abbrev pub headSize : Version → ℕ
+headSize version1 = 24
+headSize version2 = 24
 
 abbrev pub placeSize : Version → ℕ
 placeSize version1 = 20
 placeSize version2 = 24
 
 abbrev pub cellSize : Version → ℕ
-cellSize v = headSize + placesPerCell * placeSize v
+cellSize v = headSize v + placesPerCell * placeSize v
 
 -- "PWT"
 abbrev pub tableMark : ℕ
@@ -208,15 +221,24 @@ emergencyEnd = 2 ^ 24
 -- ---- the answer
 
 -- "PWA"; version; kind; message identifier; serial number; number of rows
-abbrev pub answerFields : List ℕ
-answerFields = 3 ∷ 2 ∷ 1 ∷ 2 ∷ 2 ∷ 2 ∷ []
+abbrev pub answerFields : Version → List ℕ
+answerFields v = 3 ∷ 2 ∷ 1 ∷ 2 ∷ 2 ∷ 2 ∷ []
 
 abbrev pub kindInAnswer : ℕ
 kindInAnswer = 2
 
+abbrev pub identifierInAnswer : ℕ
+identifierInAnswer = 3
+
+abbrev pub serialInAnswer : ℕ
+serialInAnswer = 4
+
+abbrev pub rowsInAnswer : ℕ
+rowsInAnswer = 5
+
 -- NR CGI; count; content
-abbrev pub rowFields : List ℕ
-rowFields = 8 ∷ 2 ∷ 4 ∷ []
+abbrev pub rowFields : Version → List ℕ
+rowFields v = 8 ∷ 2 ∷ 4 ∷ []
 
 abbrev pub identityInRow : ℕ
 identityInRow = 0
@@ -227,15 +249,19 @@ countInRow = 1
 abbrev pub contentInRow : ℕ
 contentInRow = 2
 
-abbrev pub answerSize : ℕ
-answerSize = 12
+abbrev pub answerSize : Version → ℕ
+answerSize version1 = 12
+answerSize version2 = 12
 
-abbrev pub rowSize : ℕ
-rowSize = 14
+abbrev pub rowSize : Version → ℕ
+rowSize version1 = 14
+rowSize version2 = 14
 
 -- "PWA"
 abbrev pub answerMark : ℕ
 answerMark = 0x505741
 
-abbrev pub answerVersion : ℕ
-answerVersion = 1
+-- what an answer of this unit says; document 02, 3/13, left the answer as it was
+abbrev pub answerVersion : Version → ℕ
+answerVersion version1 = 1
+answerVersion version2 = 1

@@ -6,6 +6,7 @@ pub mod Record
 pub mod Reach
 pub mod ZeroRules
 pub mod InCell
+pub mod Reply
 pub mod Answer
 pub mod Refusals
 pub mod Applied

@@ -2,7 +2,7 @@
 use mathlib.Core.Bool.{Bool, true, false, cond, _&&_, _||_}
 use mathlib.Core.List.{List, [], _∷_, flatMap}
 use Prim.Native.Nat.{ℕ, _+_}
-use lib.Dec.{eqb, ltb}
+use lib.Dec.{eqb, ltb, leb}
 
 unfoldable pub every : {A : Type 0} → (A → Bool) → List A → Bool
 every f [] = true
@@ -35,6 +35,11 @@ above x (y ∷ ys) = ltb x y && above y ys
 unfoldable pub ascending : List ℕ → Bool
 ascending [] = true
 ascending (x ∷ xs) = above x xs
+
+-- ascending, with repeats
+unfoldable pub rising : List ℕ → Bool
+rising [] = true
+rising (x ∷ xs) = every (leb x) xs && rising xs
 
 abbrev pub larger : ℕ → ℕ → ℕ
 larger a b = cond (ltb a b) b a

@@ -1,14 +1,14 @@
 -- Document 01, "The request record": what its bytes say, the bytes of a request with its items, and which requests are allowed.
 use mathlib.Core.Bool.{Bool, false, cond, not, _&&_, _||_}
 use mathlib.Core.List.{List, [], _∷_, _++_, map, flatMap}
-use Prim.Native.Nat.{ℕ, _+_, _/_, _%_}
+use Prim.Native.Nat.{ℕ, _+_, _*_, _/_, _%_}
 use lib.Dec.{eqb, ltb, leb}
 use lib.ListN.{length, take, drop}
 use Rattle.octets.specs.Runs.{pieces}
 use Rattle.octets.specs.Numbers.{be, toBe}
 use Rattle.octets.specs.Fields.{bytesOf, fieldOf}
 use Rattle.rules.specs.Lists.{every, zeros, oneOf}
-use Rattle.rules.specs.Layout.{Version, version1, version2, longestPeriod, kindInRecord, flagsInRecord, areaInRecord, identifierInRecord, serialInRecord, contentInRecord, periodInRecord, requestedInRecord, sibInRecord, zeroInRecord, countInRecord, versionField, markField, recordFields, recordSize, itemSize, recordMark, recordVersion, firstSib, lastSib, primarySib, cellEnd, trackingEnd, emergencyEnd}
+use Rattle.rules.specs.Layout.{Version, versionNumber, versionOf, longestPeriod, kindInRecord, flagsInRecord, areaInRecord, identifierInRecord, serialInRecord, contentInRecord, periodInRecord, requestedInRecord, sibInRecord, zeroInRecord, countInRecord, versionField, markField, recordFields, recordSize, itemSize, recordMark, recordVersion, firstSib, lastSib, primarySib, cellEnd, trackingEnd, emergencyEnd}
 use Rattle.rules.specs.declared.Seconds.{Seconds}
 use Rattle.rules.specs.declared.Request.{Request}
 
@@ -83,6 +83,10 @@ cancelAll q = eqb (q .flags / 2 % 2) 1
 abbrev pub notified : Request → Bool
 notified q = eqb (q .flags / 4 % 2) 1
 
+-- identifier and serial number, side by side in one number
+abbrev pub textAsked : Request → ℕ
+textAsked q = q .identifier * 65536 + q .serial
+
 -- an earthquake primary
 abbrev pub isPrimary : Request → Bool
 isPrimary q = eqb (q .sib) primarySib
@@ -138,8 +142,7 @@ versionIn r = fieldOf recordFields versionField r
 
 -- records of a version are taken by it and by later ones
 abbrev pub takesVersion : Version → ℕ → Bool
-takesVersion version1 n = eqb n 1
-takesVersion version2 n = eqb n 1 || eqb n 2
+takesVersion v n = leb 1 n && leb n (versionNumber v)
 
 unfoldable pub recordMarked : Version → List ℕ → Bool
 recordMarked v r =
@@ -151,7 +154,7 @@ renewed r = take 3 r ++ (toBe 2 recordVersion ++ drop 5 r)
 
 -- what a record may ask for is said by its own version, whatever the table's
 abbrev pub longestAsked : List ℕ → Seconds
-longestAsked r = cond (eqb (versionIn r) 1) (longestPeriod version1) (longestPeriod version2)
+longestAsked r = longestPeriod (versionOf (versionIn r))
 
 -- ---- the table of kinds
 

@@ -7,8 +7,8 @@ use lib.Dec.{eqb, leb}
 use lib.ListN.{length}
 use Rattle.octets.specs.Runs.{pieces}
 use Rattle.rules.specs.Lists.{every, ascending}
-use Rattle.rules.specs.Layout.{Version, version1, versionNumber, current, longestPeriod, headerSize, headSize, cellSize, mostCells, recordSize, itemSize, mostItems}
-use Rattle.rules.specs.Table.{legalHead, identityAt, cellCount, tableMarked, legalTable}
+use Rattle.rules.specs.Layout.{Version, versionNumber, current, longestPeriod, headerSize, headSize, cellSize, mostCells, recordSize, itemSize, mostItems}
+use Rattle.rules.specs.Table.{legalHead, identityAt, cellCount, ownVersion, tableMarked, olderMarked, legalTable}
 use Rattle.rules.specs.Record.{longestAsked, requestOf, zeroByte, itemCount, itemsOf, recordMarked, kindAllows, areaFits, withinLimits, cancelsNothing}
 use Rattle.rules.specs.Answer.{roomFor}
 use Rattle.rules.specs.declared.Seconds.{Seconds}
@@ -74,7 +74,7 @@ abbrev pub firstOf : List Test → Verdict
 firstOf [] = Accepted
 firstOf (t ∷ ts) = refuseUnless (t .holds) (t .refusal) then firstOf ts
 
--- ---- the tests, by their numbers. 1: tableMarked. 2: legalTable. 3: recordMarked. 6: withinLimits
+-- ---- the tests, by their numbers. 1: tableMarked, of an older version olderMarked. 2: legalTable. 3: recordMarked. 6: withinLimits
 
 -- 4
 abbrev pub fewItems : ℕ → Bool
@@ -96,18 +96,18 @@ abbrev pub fitsIn : ℕ → ℕ → Bool
 fitsIn needed room = leb needed room
 
 abbrev pub headCount : List ℕ → ℕ
-headCount heads = length heads / headSize
+headCount heads = length heads / headSize current
 
 abbrev pub headRuns : List ℕ → List (List ℕ)
-headRuns heads = pieces headSize (headCount heads) heads
+headRuns heads = pieces (headSize current) (headCount heads) heads
 
 -- 9: length a multiple of 24, N 1 to 512, legal heads, strictly ascending by NR CGI
 unfoldable pub legalHeads : List ℕ → Bool
 legalHeads heads =
-    eqb (length heads % headSize) 0
+    eqb (length heads % headSize current) 0
     && (leb 1 (headCount heads) && leb (headCount heads) mostCells)
-    && every legalHead (headRuns heads)
-    && ascending (map identityAt (headRuns heads))
+    && every (legalHead current) (headRuns heads)
+    && ascending (map (identityAt current) (headRuns heads))
 
 -- ---- which are made, in which order
 
@@ -140,7 +140,7 @@ writeTests q items room =
 abbrev pub applyTests : Version → List ℕ → List ℕ → ℕ → List Test
 applyTests v t r room =
     tableTests v t
-    ++ (recordTests v r ++ (test (fitsIn (roomFor (requestOf r .kind) (cellCount t)) room) ShortBuffer ∷ []))
+    ++ (recordTests v r ++ (test (fitsIn (roomFor v (requestOf r .kind) (cellCount t)) room) ShortBuffer ∷ []))
 
 -- 9, then 8
 abbrev pub buildTests : List ℕ → ℕ → List Test
@@ -149,16 +149,23 @@ buildTests heads room =
     ∷ test (fitsIn (headerSize + cellSize current * headCount heads) room) ShortBuffer
     ∷ []
 
--- converting a version 1 table: 1, 2, then 8
+-- 1, 2 of a table of an older version, whichever it says it is: 1 for any other
+abbrev pub olderTests : List ℕ → List Test
+olderTests old = test (olderMarked old) TableMark ∷ test (legalTable (ownVersion old) old) TableWrong ∷ []
+
+-- converting a table: 1, 2, then 8
 abbrev pub convertTests : List ℕ → ℕ → List Test
 convertTests old room =
-    tableTests version1 old
+    olderTests old
     ++ (test (fitsIn (headerSize + cellSize current * cellCount old) room) ShortBuffer ∷ [])
 
 -- ---- the verdicts
 
 unfoldable pub tableVerdict : Version → List ℕ → Verdict
 tableVerdict v t = firstOf (tableTests v t)
+
+unfoldable pub olderVerdict : List ℕ → Verdict
+olderVerdict old = firstOf (olderTests old)
 
 unfoldable pub requestVerdict : Seconds → Request → List ℕ → Verdict
 requestVerdict longest q items = firstOf (requestTests true longest q items)
@@ -204,6 +211,7 @@ LowestFirst ts = ascending (map (λ t. numberOf (t .refusal)) ts) ≡ true
 
 pub record VerdictsHold : Type 0 where
   pub table : (v : Version) (t : List ℕ) → Exact (tableVerdict v t) (tableTests v t) × LowestFirst (tableTests v t)
+  pub older : (old : List ℕ) → Exact (olderVerdict old) (olderTests old) × LowestFirst (olderTests old)
   pub read : (v : Version) (r : List ℕ) → Exact (recordVerdict v r) (recordTests v r) × LowestFirst (recordTests v r)
   pub write : (q : Request) (items : List ℕ) (room : ℕ) → Exact (writeVerdict q items room) (writeTests q items room) × LowestFirst (writeTests q items room)
   pub apply : (v : Version) (t r : List ℕ) (room : ℕ) → Exact (applyVerdict v t r room) (applyTests v t r room) × LowestFirst (applyTests v t r room)

@@ -7,7 +7,7 @@ use lib.ListN.{length, take, drop, replicate}
 use Rattle.octets.specs.Runs.{pieces}
 use Rattle.octets.specs.Fields.{numbers, bytesOf, padded, fieldOf}
 use Rattle.rules.specs.Lists.{every, any, zeros, ascending, larger}
-use Rattle.rules.specs.Layout.{Version, versionNumber, identityInHead, codeInHead, areasUsedInHead, areasInHead, identifierInPlace, serialInPlace, contentInPlace, periodInPlace, requestedInPlace, sentInPlace, waitInPlace, sibInPlace, liveInPlace, zeroInPlace, cellsInHeader, markField, versionField, placesInHeader, zeroInHeader, headerFields, headFields, placeFields, placesPerCell, mostAreas, headerSize, headSize, placeSize, cellSize, tableMark, mostCells, longestPeriod, firstSib, lastSib, cellEnd}
+use Rattle.rules.specs.Layout.{Version, versionNumber, versionOf, isOlder, identityInHead, codeInHead, areasUsedInHead, areasInHead, identifierInPlace, serialInPlace, contentInPlace, periodInPlace, requestedInPlace, sentInPlace, waitInPlace, sibInPlace, liveInPlace, zeroInPlace, cellsInHeader, markField, versionField, placesInHeader, zeroInHeader, headerFields, headFields, placeFields, placesPerCell, mostAreas, headerSize, headSize, placeSize, cellSize, tableMark, mostCells, longestPeriod, firstSib, lastSib, cellEnd}
 use Rattle.rules.specs.declared.Place.{Place}
 
 -- ---- cells
@@ -23,36 +23,36 @@ pub record Cell : Type 0 where
   -- the live ones, in order
   pub places : List Place
 
--- ---- a head and its 24 bytes
+-- ---- a head and its bytes: 24
 
-abbrev pub areasUsed : List ℕ → ℕ
-areasUsed b = fieldOf headFields areasUsedInHead b
+abbrev pub areasUsed : Version → List ℕ → ℕ
+areasUsed v b = fieldOf (headFields v) areasUsedInHead b
 
 -- the four identifiers, used or not
-abbrev pub allAreas : List ℕ → List ℕ
-allAreas b = drop areasInHead (numbers headFields b)
+abbrev pub allAreas : Version → List ℕ → List ℕ
+allAreas v b = take mostAreas (drop areasInHead (numbers (headFields v) b))
 
-unfoldable pub headOf : List ℕ → Head
-headOf b =
+unfoldable pub headOf : Version → List ℕ → Head
+headOf v b =
     record {
-      identity = fieldOf headFields identityInHead b;
-      code = fieldOf headFields codeInHead b;
-      areas = take (areasUsed b) (allAreas b);
+      identity = fieldOf (headFields v) identityInHead b;
+      code = fieldOf (headFields v) codeInHead b;
+      areas = take (areasUsed v b) (allAreas v b);
     }
 
 unfoldable pub headNumbers : Head → List ℕ
 headNumbers h = h .identity ∷ h .code ∷ length (h .areas) ∷ padded mostAreas 0 (h .areas)
 
-unfoldable pub headBytes : Head → List ℕ
-headBytes h = bytesOf headFields (headNumbers h)
+unfoldable pub headBytes : Version → Head → List ℕ
+headBytes v h = bytesOf (headFields v) (headNumbers h)
 
 -- NR CGI below 2^60; 0 to 4 emergency areas, the used ones first and strictly ascending, the rest zero
-unfoldable pub legalHead : List ℕ → Bool
-legalHead b =
-    ltb (headOf b .identity) cellEnd
-    && leb (areasUsed b) mostAreas
-    && ascending (headOf b .areas)
-    && zeros (drop (areasUsed b) (allAreas b))
+unfoldable pub legalHead : Version → List ℕ → Bool
+legalHead v b =
+    ltb (headOf v b .identity) cellEnd
+    && leb (areasUsed v b) mostAreas
+    && ascending (headOf v b .areas)
+    && zeros (drop (areasUsed v b) (allAreas v b))
 
 -- ---- a place and its bytes: 20, in version 2 24
 
@@ -120,6 +120,10 @@ legalPlace v p =
 unfoldable pub isText : ℕ → ℕ → Place → Bool
 isText identifier serial p = eqb (p .identifier) identifier && eqb (p .serial) serial
 
+-- both, side by side in one number
+unfoldable pub textOf : Place → ℕ
+textOf p = p .identifier * 65536 + p .serial
+
 unfoldable pub running : ℕ → ℕ → List Place → Bool
 running identifier serial ps = any (isText identifier serial) ps
 
@@ -134,20 +138,20 @@ legalPlaces v bs = liveFirst v bs && every (legalPlace v) (placesOf v bs) && dif
 -- ---- a cell and its bytes: 104, in version 2 120
 
 abbrev pub placeRuns : Version → List ℕ → List (List ℕ)
-placeRuns v c = pieces (placeSize v) placesPerCell (drop headSize c)
+placeRuns v c = pieces (placeSize v) placesPerCell (drop (headSize v) c)
 
 unfoldable pub cellOf : Version → List ℕ → Cell
-cellOf v c = record { head = headOf (take headSize c); places = placesOf v (placeRuns v c) }
+cellOf v c = record { head = headOf v (take (headSize v) c); places = placesOf v (placeRuns v c) }
 
 -- the live places first, then free ones
 unfoldable pub placesBytes : Version → List Place → List ℕ
 placesBytes v ps = flatMap (λ b. b) (padded placesPerCell (freeBytes v) (map (placeBytes v) ps))
 
 unfoldable pub cellBytes : Version → Cell → List ℕ
-cellBytes v c = headBytes (c .head) ++ placesBytes v (c .places)
+cellBytes v c = headBytes v (c .head) ++ placesBytes v (c .places)
 
 unfoldable pub legalCell : Version → List ℕ → Bool
-legalCell v c = legalHead (take headSize c) && legalPlaces v (placeRuns v c)
+legalCell v c = legalHead v (take (headSize v) c) && legalPlaces v (placeRuns v c)
 
 -- ---- a whole table
 
@@ -166,12 +170,22 @@ headerBytes v n = bytesOf headerFields (tableMark ∷ versionNumber v ∷ n ∷ 
 unfoldable pub tableBytes : Version → List Cell → List ℕ
 tableBytes v cells = headerBytes v (length cells) ++ flatMap (cellBytes v) cells
 
-abbrev pub identityAt : List ℕ → ℕ
-identityAt b = headOf (take headSize b) .identity
+-- the number by which the cell whose bytes these are is known and ordered
+abbrev pub identityAt : Version → List ℕ → ℕ
+identityAt v b = headOf v (take (headSize v) b) .identity
+
+-- the version that a header says
+abbrev pub ownVersion : List ℕ → Version
+ownVersion t = versionOf (fieldOf headerFields versionField t)
 
 -- the mark, and the version by its number
 unfoldable pub tableMarked : ℕ → List ℕ → Bool
 tableMarked n t = leb 5 (length t) && eqb (fieldOf headerFields markField t) tableMark && eqb (fieldOf headerFields versionField t) n
+
+-- the mark, and an older version
+unfoldable pub olderMarked : List ℕ → Bool
+olderMarked t =
+    leb 5 (length t) && eqb (fieldOf headerFields markField t) tableMark && isOlder (fieldOf headerFields versionField t)
 
 -- 1 to 512 cells; the byte 4; zeros; the exact length; legal cells, strictly ascending by NR CGI
 unfoldable pub legalTable : Version → List ℕ → Bool
@@ -181,4 +195,4 @@ legalTable v t =
     && eqb (fieldOf headerFields zeroInHeader t) 0
     && eqb (length t) (headerSize + cellSize v * cellCount t)
     && every (legalCell v) (cellRuns v t)
-    && ascending (map identityAt (cellRuns v t))
+    && ascending (map (identityAt v) (cellRuns v t))

@@ -134,12 +134,13 @@ pub const ANSWER: usize = 12;
 
 pub const ROW: usize = 14;
 
-pub const ANSWER_VERSION: u16 = 1;
+pub const ANSWER_VERSION: u8 = 1;
+
+// "PWA" as a number.
+pub const ANSWER_MARK: u32 = 0x505741;
 
 // Offsets in an answer's head.
 pub const ANSWER_KIND_AT: usize = 5;
-
-pub const ANSWER_IDENTIFIER_AT: usize = 6;
 
 pub const ANSWER_SERIAL_AT: usize = 8;
 

@@ -1,10 +1,17 @@
 // Document 01's types. What they mean, and every rule about them, stands in specs/.
 ghost use mathlib.Core.Path.{_≡_};
-ghost use Rattle.rules.specs.Identity.{identityAnswer, plmnOf, partOf, trackingItem};
-ghost use Rattle.rules.specs.Refusals.{numberOf, verdictNumber, writingNumber, writingLength};
+ghost use Prim.Native.Nat.{_+_, _<_};
+ghost use lib.Dec.{ltb};
+ghost use Rattle.rules.specs.Layout.{cellEnd};
+ghost use Rattle.rules.specs.Identity.{identityNumber, identityAnswer, plmnOf, partOf, trackingItem};
+ghost use Rattle.rules.specs.Record.{cancelAll, concurrent, notified, textAsked};
+ghost use Rattle.rules.specs.Refusals.{numberOf, writingNumber, writingLength};
 
 pub mod kind;
 pub mod layout;
+
+use kind::CANCEL_ALL;
+use kind::NOTIFIED;
 
 // "A count of seconds never stands where a count of broadcasts is meant": each has a type of its own.
 #[repr(C)]
@@ -37,6 +44,36 @@ pub struct Request {
     pub period: Seconds,
     pub requested: Broadcasts,
     pub sib: u8,
+}
+
+impl Request {
+    // Flag 1.
+    pub fn concurrent(self) -> bool
+        ensures { λ r. ⌜ r ≡ concurrent self ⌝ }
+    {
+        self.flags % 2 == 1
+    }
+
+    // Flag 2.
+    pub fn cancels_all(self) -> bool
+        ensures { λ r. ⌜ r ≡ cancelAll self ⌝ }
+    {
+        self.flags / CANCEL_ALL % 2 == 1
+    }
+
+    // Flag 4.
+    pub fn notified(self) -> bool
+        ensures { λ r. ⌜ r ≡ notified self ⌝ }
+    {
+        self.flags / NOTIFIED % 2 == 1
+    }
+
+    // The text that it names, as one number.
+    pub fn text(self) -> u32
+        ensures { λ r. ⌜ r ≡ textAsked self ⌝ }
+    {
+        (self.identifier as u32) * 65536 + (self.serial as u32)
+    }
 }
 
 // The numbered refusals, in the order of their numbers: document 01's nine, then those of a list of segments (document 02).
@@ -80,17 +117,6 @@ impl Refusal {
 pub enum Verdict {
     Accepted,
     Refused(Refusal),
-}
-
-impl Verdict {
-    pub fn number(self) -> u32
-        ensures { λ r. ⌜ r ≡ verdictNumber self ⌝ }
-    {
-        match self {
-            Verdict::Accepted => 0,
-            Verdict::Refused(refusal) => refusal.number(),
-        }
-    }
 }
 
 // What whoever fills a buffer answers: the length written, or why nothing was.
@@ -163,6 +189,20 @@ impl CellIdentity {
         ensures { λ r. ⌜ r ≡ partOf (self .0) ⌝ }
     {
         self.0 % PART_END
+    }
+
+    pub fn below(self, other: CellIdentity) -> bool
+        ensures { λ r. ⌜ r ≡ ltb (identityNumber self) (identityNumber other) ⌝ }
+    {
+        self.0 < other.0
+    }
+
+    // The least that may follow, where cells ascend.
+    pub fn next(self) -> CellIdentity
+        requires { ⌜ identityNumber self < cellEnd ⌝ }
+        ensures { λ r. ⌜ identityNumber r ≡ identityNumber self + 1 ⌝ }
+    {
+        CellIdentity(self.0 + 1)
     }
 
     // The item that names a tracking area: the cell's PLMN, then the code.

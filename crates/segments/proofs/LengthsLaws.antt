@@ -10,7 +10,7 @@ use lib.ListN.{length, getD, drop, drop-of-length-le}
 use lib.Seq.{drop-cons}
 use borrow.Author.Tests.{le-leb, lt-leb, leb-true, eq-eqb, ne-eqb, eqb-true, eqb-false}
 use Rattle.rules.specs.Lists.{every}
-use Rattle.rules.proofs.ListsLaws.{by-test, both}
+use Rattle.rules.proofs.TestLaws.{by-test, both}
 use Rattle.segments.specs.Segments.{longestSegment, total, lengthsFit}
 
 -- ---- lengths, one after the other

@@ -14,7 +14,7 @@ use Rattle.octets.specs.Numbers.{toBe, be}
 use Rattle.octets.proofs.RunsLaws.{bytes-take, bytes-drop}
 use Rattle.octets.proofs.NumbersLaws.{be-lt, length-toBe, be-toBe, toBe-be}
 use Rattle.rules.proofs.AllLaws.{All, none, more}
-use Rattle.rules.proofs.ListsLaws.{by-test}
+use Rattle.rules.proofs.TestLaws.{by-test}
 use Rattle.segments.specs.Segments.{lengthSize, longestSegment, segmentBytes, listBytes, firstLength, firstEnd, firstOf, segmentsIn, segmentsOf, wholeList}
 use Rattle.segments.proofs.ListLaws.{in-more, in-none, segments-more, segments-none, length-segment, list-cons, behind-length}
 

@@ -10,7 +10,7 @@ use lib.Seq.{take-append-seam, drop-at}
 use borrow.Author.Tests.{le-leb, lt-leb, leb-true, leb-false}
 use Rattle.octets.specs.Numbers.{toBe}
 use Rattle.octets.proofs.NumbersLaws.{length-toBe}
-use Rattle.rules.proofs.ListsLaws.{by-test}
+use Rattle.rules.proofs.TestLaws.{by-test}
 use Rattle.segments.specs.Segments.{lengthSize, segmentBytes, listBytes, firstEnd, firstOf, segmentsIn, segmentsOf}
 
 -- ---- cutting a list of bytes

@@ -19,7 +19,7 @@ use Rattle.rules.specs.declared.Refusal.the-variants.{NoSuchSegment}
 use Rattle.rules.proofs.OnceLaws.{writing-injective}
 use Rattle.rules.proofs.OutcomeLaws.{fill-accepted}
 use Rattle.rules.proofs.AllLaws.{All}
-use Rattle.rules.proofs.ListsLaws.{by-test}
+use Rattle.rules.proofs.TestLaws.{by-test}
 use Rattle.segments.specs.Segments.{mostSegments, listBytes, segmentsOf, wholeList, segmentVerdict, segmentOf, lying, liesAt, cutAt, packVerdict, packed}
 use Rattle.segments.proofs.ListCodec.{Sayable, in-sayable, segments-packed, packed-whole, packed-segments}
 use Rattle.segments.proofs.PartLaws.{AcceptedList, list-accepted, accepted-list, lies-accepted}

@@ -19,20 +19,20 @@ use Rattle.rules.specs.declared.Request.{Request}
 abbrev number : Bool → Bool → Bool → Bool → ℕ
 number flag some more again = 6 * boolByte flag + 2 * (boolByte some + boolByte more) + boolByte again
 
-abbrev numberOf : Request → ℕ
-numberOf q = number (concurrent q) (ltb 0 (q .requested .0)) (ltb 1 (q .requested .0)) (ltb 0 (q .period .0))
+abbrev numberOf : Bool → Request → ℕ
+numberOf flag q = number flag (ltb 0 (q .requested .0)) (ltb 1 (q .requested .0)) (ltb 0 (q .period .0))
 
 bit : (b : Bool) → boolByte b ≤ 1
 bit true = omega arith
 bit false = omega arith
 
 -- each test adds 1 at most, so that every part of the number is small and the whole is below 12
-pub tests-small : (q : Request)
-    → (boolByte (concurrent q) ≤ 1)
+pub tests-small : (flag : Bool) (q : Request)
+    → (boolByte flag ≤ 1)
     × (boolByte (ltb 0 (q .requested .0)) ≤ 1)
     × (boolByte (ltb 1 (q .requested .0)) ≤ 1)
     × (boolByte (ltb 0 (q .period .0)) ≤ 1)
-tests-small q = (bit (concurrent q), bit (ltb 0 (q .requested .0)), bit (ltb 1 (q .requested .0)), bit (ltb 0 (q .period .0)))
+tests-small flag q = (bit flag, bit (ltb 0 (q .requested .0)), bit (ltb 1 (q .requested .0)), bit (ltb 0 (q .period .0)))
 
 -- ---- the columns
 
@@ -83,7 +83,7 @@ rows true true false true e = refl
 rows true some true false e = rw (e refl)
 rows true some true true e = rw (e refl)
 
-pub entry-decides : (q : Request) → getD entries (numberOf q) false ≡ zeroRulesStop q
-entry-decides q =
-    rw (requested-column (q .requested .0), period-column (q .period .0))
+pub entry-decides : (q : Request) {flag : Bool} → flag ≡ concurrent q → getD entries (numberOf flag q) false ≡ zeroRulesStop q
+entry-decides q e =
+    rw (e, requested-column (q .requested .0), period-column (q .period .0))
     (rows (concurrent q) _ _ (ltb 0 (q .period .0)) (also-above-0 (q .requested .0)))

@@ -32,7 +32,7 @@ const IDLE: [bool; 12] = [
 pub fn starts_nothing(request: Request) -> bool
     ensures { λ r. ⌜ r ≡ startsNothing request ⌝ }
 {
-    let concurrent = (request.flags % 2 == 1) as usize;
+    let concurrent = request.concurrent() as usize;
     let requested = (0 < request.requested.0) as usize + (1 < request.requested.0) as usize;
     let period = (0 < request.period.0) as usize;
     (request.sib != PRIMARY_SIB) & IDLE[6 * concurrent + 2 * requested + period]

@@ -46,7 +46,7 @@ header-stored n h t p q =
 -- ---- a cell
 
 -- a head that is stored in three parts is stored whole
-pub head-stored : (cell head : List ℕ) → Bytes head → length head ≡ headSize → {x y z : ℕ} → x ≡ be (gets head 0 8) → y ≡ be (gets head 8 8) → z ≡ be (gets head 16 8)
+pub head-stored : (cell head : List ℕ) → Bytes head → length head ≡ headSize current → {x y z : ℕ} → x ≡ be (gets head 0 8) → y ≡ be (gets head 8 8) → z ≡ be (gets head 16 8)
     → {a b c : List ℕ} → a ≡ sets cell 0 (toBe 8 x) → b ≡ sets a 8 (toBe 8 y) → c ≡ sets b 16 (toBe 8 z) → c ≡ sets cell 0 head
 head-stored cell head bytes long x y z p q r =
     let whole : gets head 0 24 ≡ head = gets-eq 24 head 0 (omega arith) ∙ take-all 24 head (omega arith) in
@@ -63,14 +63,14 @@ front-stored w l front a z m f p q =
     let rest : length (drop w a) ≡ length l - w = rw (length-drop, long) in
     rw (take-front, q, long, take-all (length l - w) (drop w a) (omega arith), drop-of-length-le (drop w a) {i = length l - w} (omega arith), rest, append-nil)
 
-pub cell-stored : (cell head a z : List ℕ) → length cell ≡ cellSize current → length head ≡ headSize → a ≡ sets cell 0 head
-    → z ≡ replicate (length (midOf headSize (length a - headSize) a)) 0 → putMid headSize (length a - headSize) a z ≡ emptyRun head
+pub cell-stored : (cell head a z : List ℕ) → length cell ≡ cellSize current → length head ≡ headSize current → a ≡ sets cell 0 head
+    → z ≡ replicate (length (midOf (headSize current) (length a - headSize current) a)) 0 → putMid (headSize current) (length a - headSize current) a z ≡ emptyRun head
 unfolding emptyRun
-cell-stored cell head a z n m p q = front-stored headSize cell head a z m (omega arith) p q ∙ rw n
+cell-stored cell head a z n m p q = front-stored (headSize current) cell head a z m (omega arith) p q ∙ rw n
 
 -- ---- the loop: what is stored is, with what is left, the whole
 
-pub length-emptyRun : (head : List ℕ) → length head ≡ headSize → length (emptyRun head) ≡ cellSize current
+pub length-emptyRun : (head : List ℕ) → length head ≡ headSize current → length (emptyRun head) ≡ cellSize current
 unfolding emptyRun
 length-emptyRun head e = rw (length-append, e)
 

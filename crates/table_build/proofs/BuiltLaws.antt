@@ -18,17 +18,18 @@ use Rattle.rules.specs.Refusals.{headCount, headRuns, legalHeads, buildVerdict}
 use Rattle.rules.specs.Applied.{filledBy, fill, emptyCell, built}
 use Rattle.rules.specs.declared.Refusal.the-variants.{ShortBuffer, BadHeads}
 use Rattle.rules.specs.declared.Writing.the-variants.{Written, Unwritten}
-use Rattle.rules.proofs.ListsLaws.{flatMap-map}
+use Rattle.rules.proofs.MapLaws.{flatMap-map}
 use Rattle.rules.proofs.AllLaws.{all-every, all-imply, all-both, all-pieces, flatMap-all}
 use Rattle.rules.proofs.HeadCodec.{head-back}
-use Rattle.rules.proofs.TableCodec.{legal-heads, length-headerBytes, length-tableBytes}
+use Rattle.rules.proofs.TableCodec.{length-headerBytes, length-tableBytes}
+use Rattle.rules.proofs.HeadsCodec.{legal-heads}
 use Rattle.table_build.specs.Build.{emptyRun}
 
 -- ---- the bytes of empty cells
 
-empty-run : (b : List ℕ) → Bytes b → length b ≡ headSize → legalHead b ≡ true → cellBytes current (emptyCell b) ≡ emptyRun b
+empty-run : (b : List ℕ) → Bytes b → length b ≡ headSize current → legalHead current b ≡ true → cellBytes current (emptyCell b) ≡ emptyRun b
 unfolding cellBytes emptyCell placesBytes padded flatMap emptyRun
-empty-run b h n l = rw (head-back b h n l)
+empty-run b h n l = rw (head-back current b h n l)
 
 module _ (heads : List ℕ) (bytes : Bytes heads) (legal : legalHeads heads ≡ true) where
   -- the cells that the heads say
@@ -36,14 +37,14 @@ module _ (heads : List ℕ) (bytes : Bytes heads) (legal : legalHeads heads ≡ 
   cells = map emptyCell (headRuns heads)
 
   count-cells : length cells ≡ headCount heads
-  count-cells = length-map (headRuns heads) emptyCell ∙ length-pieces headSize (headCount heads) heads
+  count-cells = length-map (headRuns heads) emptyCell ∙ length-pieces (headSize current) (headCount heads) heads
 
   cells-bytes : flatMap (cellBytes current) cells ≡ flatMap emptyRun (headRuns heads)
   cells-bytes =
       flatMap-map (cellBytes current) emptyCell (headRuns heads)
       ∙ flatMap-all (λ b. cellBytes current (emptyCell b)) emptyRun
       (all-imply (λ b h. empty-run b (h .0 .0) (h .0 .1) (h .1))
-      (all-both (all-pieces headSize (headCount heads) heads bytes (omega arith)) (all-every legalHead (headRuns heads) (legal-heads heads legal .each))))
+      (all-both (all-pieces (headSize current) (headCount heads) heads bytes (omega arith)) (all-every (legalHead current) (headRuns heads) (legal-heads heads legal .each))))
 
   -- a the buffer with the header, b that with the cells
   stored : (t : List ℕ) {a b : List ℕ} → a ≡ sets t 0 (headerBytes current (headCount heads)) → b ≡ sets a headerSize (flatMap emptyRun (headRuns heads)) → b ≡ sets t 0 (tableBytes current cells)
@@ -79,5 +80,6 @@ module _ (heads t : List ℕ) (l : Bool) (el : l ≡ legalHeads heads) where
         → b ≡ sets a headerSize (flatMap emptyRun (headRuns heads)) → filledBy (Written (headerSize + cellSize current * headCount heads)) b ≡ built heads t
     unfolding built buildVerdict fill
     table-built bytes room p q =
-        let long : length (tableBytes current (cells heads bytes legal)) ≡ headerSize + cellSize current * headCount heads = length-tableBytes current (cells heads bytes legal) ∙ rw (count-cells heads bytes legal) in
+        let made = cells heads bytes legal in
+        let long : length (tableBytes current made) ≡ headerSize + cellSize current * headCount heads = length-tableBytes current made ∙ rw (count-cells heads bytes legal) in
         rw (legal, le-leb (headerSize + cellSize current * headCount heads) (length t) room, long, stored heads bytes legal t p q)

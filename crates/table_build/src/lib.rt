@@ -11,6 +11,7 @@ ghost use Rattle.rules.specs.Refusals.{legalHeads};
 ghost use Rattle.rules.specs.Applied.{filledBy, built};
 ghost use Rattle.table_judge.specs.Judge.{legalRuns};
 ghost use Rattle.table_build.specs.Build.{emptyRun};
+use octets::BYTES_64;
 use octets::get64;
 use octets::put64;
 use rules::CellIdentity;
@@ -25,9 +26,7 @@ use rules::layout::TABLE_MARK;
 use rules::layout::TABLE_VERSION;
 use rules::layout::ZEROS_AT;
 use table_judge::head_legal;
-
-// What one `get64` reads: a head is three of these.
-const WORD: usize = 8;
+use table_judge::identity_at;
 
 // Any heads, any buffer: refusal 9, then 8; else the header, then each head with free places behind it. Bytes beyond stay.
 pub fn build(heads: &[u8], table: &mut [u8]) -> Writing
@@ -62,21 +61,21 @@ fn heads_legal(heads: &[u8]) -> bool
 
 // `least` is the least NR CGI that may follow.
 fn heads_in_order(heads: &[u8], count: usize) -> bool
-    requires { ⌜ length (now heads) ≡ headSize * count ⌝ }
-    ensures { λ r. ⌜ r ≡ legalRuns legalHead (pieces headSize count (now (heads .entry))) ⌝ }
+    requires { ⌜ length (now heads) ≡ headSize current * count ⌝ }
+    ensures { λ r. ⌜ r ≡ legalRuns current (legalHead current) (pieces (headSize current) count (now (heads .entry))) ⌝ }
 {
     let mut at: usize = 0;
-    let mut least: u64 = 0;
+    let mut least = CellIdentity(0);
     while at < heads.len() {
         let end = at + HEAD;
-        let identity = CellIdentity(get64(heads, at));
-        if identity.0 < least {
+        let identity = identity_at(heads, at);
+        if identity.below(least) {
             return false;
         }
         if !head_legal(&heads[at..end]) {
             return false;
         }
-        least = identity.0 + 1;
+        least = identity.next();
         at = end;
     }
     true
@@ -97,8 +96,8 @@ pub fn put_header(table: &mut [u8], count: usize)
 }
 
 fn put_cells(table: &mut [u8], heads: &[u8], count: usize)
-    requires { ⌜ (headSize * count ≤ length (now heads)) × (headerSize + cellSize current * count ≤ length (now table)) ⌝ }
-    ensures { λ _. ⌜ now (table .exit) ≡ sets (now (table .entry)) headerSize (flatMap emptyRun (pieces headSize count (now (heads .entry)))) ⌝ }
+    requires { ⌜ (headSize current * count ≤ length (now heads)) × (headerSize + cellSize current * count ≤ length (now table)) ⌝ }
+    ensures { λ _. ⌜ now (table .exit) ≡ sets (now (table .entry)) headerSize (flatMap emptyRun (pieces (headSize current) count (now (heads .entry)))) ⌝ }
 {
     let mut from: usize = 0;
     let mut at = HEADER;
@@ -114,7 +113,7 @@ fn put_cells(table: &mut [u8], heads: &[u8], count: usize)
 }
 
 fn put_cell(cell: &mut [u8], head: &[u8])
-    requires { ⌜ (length (now cell) ≡ cellSize current) × (length (now head) ≡ headSize) ⌝ }
+    requires { ⌜ (length (now cell) ≡ cellSize current) × (length (now head) ≡ headSize current) ⌝ }
     ensures { λ _. ⌜ now (cell .exit) ≡ emptyRun (now (head .entry)) ⌝ }
 {
     put_head(cell, head);
@@ -123,12 +122,12 @@ fn put_cell(cell: &mut [u8], head: &[u8])
 
 // The head at the start of the cell, eight bytes at a time. The converter asks this too.
 pub fn put_head(cell: &mut [u8], head: &[u8])
-    requires { ⌜ (length (now head) ≡ headSize) × (headSize ≤ length (now cell)) ⌝ }
+    requires { ⌜ (length (now head) ≡ headSize current) × (headSize current ≤ length (now cell)) ⌝ }
     ensures { λ _. ⌜ now (cell .exit) ≡ sets (now (cell .entry)) 0 (now (head .entry)) ⌝ }
 {
     put64(cell, 0, get64(head, 0));
-    put64(cell, WORD, get64(head, WORD));
-    put64(cell, 2 * WORD, get64(head, 2 * WORD));
+    put64(cell, BYTES_64, get64(head, BYTES_64));
+    put64(cell, 2 * BYTES_64, get64(head, 2 * BYTES_64));
 }
 
 fn clear(bytes: &mut [u8])

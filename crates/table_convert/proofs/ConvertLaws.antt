@@ -1,5 +1,5 @@
--- The converter's answers are `conversion`: 1 and 2 by version 1's rules, then 8, then the same cells in the current layout, whole.
--- The bytes of an accepted table's cells are the widened ones, behind a header of the current version.
+-- The converter's answers are `conversion`: 1 and 2 by the older version's rules, then 8, then the same cells in the current layout, whole.
+-- An older table is one of version 1, and the bytes of its cells are the widened ones, behind a header of the current version.
 use mathlib.Core.Path.{_≡_, sym, _∙_}
 use mathlib.Core.List.{List, _++_, flatMap}
 use Prim.Native.Nat.{ℕ, _+_, _-_, _*_, _≤_, _<_}
@@ -14,32 +14,37 @@ use Rattle.octets.proofs.RunsLaws.{sets-run}
 use Rattle.octets.proofs.FieldsLaws.{field-at}
 use Rattle.rules.specs.Layout.{version1, current, headerFields, cellsInHeader, headerSize, cellSize, mostCells}
 use Rattle.rules.specs.Table.{cellCount, cellOf, cellBytes, cellRuns, cellsOf, headerBytes, tableBytes}
-use Rattle.rules.specs.Refusals.{tableVerdict}
+use Rattle.rules.specs.Refusals.{tableVerdict, olderVerdict}
 use Rattle.rules.specs.Applied.{filledBy, fill, converted, conversion}
 use Rattle.rules.specs.declared.Refusal.{Refusal}
 use Rattle.rules.specs.declared.Refusal.the-variants.{ShortBuffer}
 use Rattle.rules.specs.declared.Verdict.the-variants.{Accepted, Refused}
 use Rattle.rules.specs.declared.Writing.the-variants.{Written, Unwritten}
-use Rattle.rules.proofs.ListsLaws.{flatMap-map}
+use Rattle.rules.proofs.MapLaws.{flatMap-map}
 use Rattle.rules.proofs.AllLaws.{all-imply, flatMap-all}
 use Rattle.rules.proofs.VerdictLaws.{convert-chain}
-use Rattle.rules.proofs.TableCodec.{table-accepted, length-cellsOf, table-cells, length-headerBytes}
-use Rattle.rules.proofs.ConvertedLaws.{length-converted}
+use Rattle.rules.proofs.TableCodec.{length-cellsOf, table-cells, length-headerBytes}
+use Rattle.rules.proofs.LegalTableLaws.{table-accepted}
+use Rattle.rules.proofs.OlderLaws.{older-verdict}
+use Rattle.rules.proofs.ConvertedLaws.{converted-by, length-converted}
 use Rattle.table_judge.proofs.PiecesLaws.{take-rest}
 use Rattle.table_convert.specs.Wide.{wideCell}
 use Rattle.table_convert.proofs.WideCellLaws.{wide-bytes}
 
--- refused by version 1's rules
-pub old-refused : (old t : List ℕ) {x : Refusal} → Refused x ≡ tableVerdict version1 old → filledBy (Unwritten x) t ≡ conversion old t
+-- refused by the older version's rules
+pub old-refused : (old t : List ℕ) {x : Refusal} → Refused x ≡ olderVerdict old → filledBy (Unwritten x) t ≡ conversion old t
 unfolding conversion fill
 old-refused old t e = rw (convert-chain old (length t), ← e)
 
-module _ (old : List ℕ) (accepted : tableVerdict version1 old ≡ Accepted) where
+module _ (old : List ℕ) (accepted : olderVerdict old ≡ Accepted) where
+  one : tableVerdict version1 old ≡ Accepted
+  one = sym (older-verdict old) ∙ accepted
+
   pub old-size : length old ≡ headerSize + cellSize version1 * cellCount old
-  old-size = table-accepted version1 old accepted .size
+  old-size = table-accepted version1 old one .size
 
   pub old-few : cellCount old ≤ mostCells
-  old-few = table-accepted version1 old accepted .few
+  old-few = table-accepted version1 old one .few
 
   -- the count that the code reads
   pub old-count : {n : ℕ} → n ≡ be (gets old 5 2) → n ≡ cellCount old
@@ -52,12 +57,13 @@ module _ (old : List ℕ) (accepted : tableVerdict version1 old ≡ Accepted) wh
 
   -- the bytes of the same cells
   widened : Bytes old → converted old ≡ headerBytes current (cellCount old) ++ flatMap wideCell (cellRuns version1 old)
-  unfolding converted tableBytes cellsOf
+  unfolding tableBytes cellsOf
   widened bytes =
       rw (
+        converted-by version1 old one,
         length-cellsOf version1 old,
         flatMap-map (cellBytes current) (cellOf version1) (cellRuns version1 old),
-        flatMap-all (λ c. cellBytes current (cellOf version1 c)) wideCell (all-imply (λ c h. wide-bytes c (h .0) (h .1) (h .2)) (table-cells version1 old bytes accepted)),
+        flatMap-all (λ c. cellBytes current (cellOf version1 c)) wideCell (all-imply (λ c h. wide-bytes c (h .0) (h .1) (h .2)) (table-cells version1 old bytes one)),
       )
 
   pub table-converted : Bytes old → (t : List ℕ) {n : ℕ} → n ≡ be (gets old 5 2) → headerSize + cellSize current * n ≤ length t
@@ -66,5 +72,7 @@ module _ (old : List ℕ) (accepted : tableVerdict version1 old ≡ Accepted) wh
   unfolding conversion fill
   table-converted bytes t e room p q =
       let c = old-count e in
-      let long = length-converted old bytes accepted in
-      rw (convert-chain old (length t), accepted, le-leb (headerSize + cellSize current * cellCount old) (length t) (rw c at room), long, widened bytes, q, p, take-rest, c, sets-run (headerBytes current (cellCount old)) _ t 0 headerSize (rw (length-headerBytes current)))
+      let long = length-converted version1 old one bytes in
+      let fits = le-leb (headerSize + cellSize current * cellCount old) (length t) (rw c at room) in
+      let behind = sets-run (headerBytes current (cellCount old)) (flatMap wideCell (cellRuns version1 old)) t 0 headerSize (rw (length-headerBytes current)) in
+      rw (convert-chain old (length t), accepted, fits, long, widened bytes, q, p, take-rest, c, behind)

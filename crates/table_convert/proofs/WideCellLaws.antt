@@ -18,12 +18,13 @@ use Rattle.rules.specs.Lists.{every}
 use Rattle.rules.specs.Layout.{version1, current, placeFields, placeSize, placesPerCell, headSize, cellSize, longestPeriod}
 use Rattle.rules.specs.Table.{placeOf, isFree, liveFirst, placesOf, legalPlace, legalHead, legalPlaces, placeRuns, cellOf, cellBytes, legalCell}
 use Rattle.rules.specs.declared.Place.{Place}
-use Rattle.rules.proofs.ListsLaws.{both, by-test, zeros-replicate}
+use Rattle.rules.proofs.ListsLaws.{zeros-replicate}
+use Rattle.rules.proofs.TestLaws.{both, by-test}
 use Rattle.rules.proofs.AllLaws.{All, none, more, all-imply, bytes-flatMap-all}
-use Rattle.rules.proofs.PlaceCodec.{PlaceRun, LiveFirst, free, live, live-first}
+use Rattle.rules.proofs.PlacesCodec.{PlaceRun, LiveFirst, live-first, free, live}
 use Rattle.rules.proofs.CellCodec.{cell-runs, cell-back}
 use Rattle.table_convert.specs.Wide.{widePlace, widePlaces, wideCell, shortPeriod, shortPeriods}
-use Rattle.table_convert.proofs.WideLaws.{length-wide, bytes-wide, place-wide, live-wide, free-wide}
+use Rattle.table_convert.proofs.WideLaws.{same-head, same-legal, length-wide, bytes-wide, place-wide, live-wide, free-wide}
 
 -- ---- the places of a cell
 
@@ -81,56 +82,56 @@ legal-places-wide {bs} rs =
 pub length-widePlaces : (c : List ℕ) → length (widePlaces c) ≡ placeSize current * placesPerCell
 unfolding widePlaces
 length-widePlaces c =
-    rw (length-flatMap (placeSize current) widePlace (placeRuns version1 c) length-wide, length-pieces (placeSize version1) placesPerCell (drop headSize c))
+    rw (length-flatMap (placeSize current) widePlace (placeRuns version1 c) length-wide, length-pieces (placeSize version1) placesPerCell (drop (headSize version1) c))
 
 pub length-wideCell : (c : List ℕ) → length c ≡ cellSize version1 → length (wideCell c) ≡ cellSize current
 unfolding wideCell
-length-wideCell c long = rw (length-append, length-take-le headSize c (omega arith), length-widePlaces c)
+length-wideCell c long = rw (length-append, length-take-le (headSize version1) c (omega arith), length-widePlaces c)
 
 module _ (c : List ℕ) (bytes : Bytes c) (long : length c ≡ cellSize version1) where
   runs : All (PlaceRun version1) (placeRuns version1 c)
   runs = cell-runs version1 c bytes long
 
-  front : length (take headSize c) ≡ headSize
-  front = length-take-le headSize c (omega arith)
+  front : length (take (headSize version1) c) ≡ headSize version1
+  front = length-take-le (headSize version1) c (omega arith)
 
   -- what a judge of the widened places is asked
   runs-wide : pieces (placeSize current) placesPerCell (widePlaces c) ≡ map widePlace (placeRuns version1 c)
   unfolding widePlaces
   runs-wide =
-      let n : length (placeRuns version1 c) ≡ placesPerCell = length-pieces (placeSize version1) placesPerCell (drop headSize c) in
+      let n : length (placeRuns version1 c) ≡ placesPerCell = length-pieces (placeSize version1) placesPerCell (drop (headSize version1) c) in
       rw (append-nil, n) at (pieces-flatMap (placeSize current) widePlace (placeRuns version1 c) length-wide [])
 
-  pub legal-wide : legalHead (take headSize c) && shortPeriods c && legalPlaces current (pieces (placeSize current) placesPerCell (widePlaces c)) ≡ legalCell version1 c
+  pub legal-wide : legalHead current (take (headSize version1) c) && shortPeriods c && legalPlaces current (pieces (placeSize current) placesPerCell (widePlaces c)) ≡ legalCell version1 c
   unfolding legalCell shortPeriods
   legal-wide =
-      rw (runs-wide, legal-places-wide runs)
-      (and-assoc (legalHead (take headSize c)) (every shortPeriod (placeRuns version1 c)) (legalPlaces current (map widePlace (placeRuns version1 c))))
+      rw (same-legal (take (headSize version1) c), runs-wide, legal-places-wide runs)
+      (and-assoc (legalHead version1 (take (headSize version1) c)) (every shortPeriod (placeRuns version1 c)) (legalPlaces current (map widePlace (placeRuns version1 c))))
 
   -- ---- its bytes
 
-  head-wide : take headSize (wideCell c) ≡ take headSize c
+  head-wide : take (headSize current) (wideCell c) ≡ take (headSize version1) c
   unfolding wideCell
-  head-wide = take-at (take headSize c) (widePlaces c) headSize front
+  head-wide = take-at (take (headSize version1) c) (widePlaces c) (headSize current) front
 
-  behind-wide : drop headSize (wideCell c) ≡ widePlaces c
+  behind-wide : drop (headSize current) (wideCell c) ≡ widePlaces c
   unfolding wideCell
-  behind-wide = drop-at (take headSize c) (widePlaces c) headSize front
+  behind-wide = drop-at (take (headSize version1) c) (widePlaces c) (headSize current) front
 
   cell-wide : cellOf current (wideCell c) ≡ cellOf version1 c
   unfolding cellOf
-  cell-wide = rw (head-wide, behind-wide, runs-wide, places-wide runs)
+  cell-wide = rw (head-wide, same-head (take (headSize version1) c), behind-wide, runs-wide, places-wide runs)
 
   bytes-wideCell : Bytes (wideCell c)
   unfolding wideCell widePlaces
-  bytes-wideCell = bytes-append (take headSize c) _ (bytes-take headSize c bytes) (bytes-flatMap-all widePlace (all-imply bytes-wide runs))
+  bytes-wideCell = bytes-append (take (headSize version1) c) _ (bytes-take (headSize version1) c bytes) (bytes-flatMap-all widePlace (all-imply bytes-wide runs))
 
   -- what is legal by version 1 is legal by the current rules
   wide-legal : legalCell version1 c ≡ true → legalCell current (wideCell c) ≡ true
   unfolding legalCell
   wide-legal e =
-      let l = both (legalHead (take headSize c) && shortPeriods c) _ (legal-wide ∙ e) in
-      rw (head-wide, behind-wide, both (legalHead (take headSize c)) (shortPeriods c) (l .0) .0) (l .1)
+      let l = both (legalHead current (take (headSize version1) c) && shortPeriods c) _ (legal-wide ∙ e) in
+      rw (head-wide, behind-wide, both (legalHead current (take (headSize version1) c)) (shortPeriods c) (l .0) .0) (l .1)
 
   -- what the current layout has for the cell that version 1 reads
   pub wide-bytes : legalCell version1 c ≡ true → cellBytes current (cellOf version1 c) ≡ wideCell c

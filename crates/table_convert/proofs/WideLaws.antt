@@ -1,4 +1,4 @@
--- A version 1 place and the widened one say the same: the same numbers, so the same place, live or free.
+-- A version 1 place and the widened one say the same: the same numbers, so the same place, live or free. A head has the same fields in both versions.
 -- Numbers that fit version 1's fields fit the wider ones, and what is written of numbers that fit says those numbers.
 use mathlib.Core.Path.{_≡_, refl, sym, ap, _∙_}
 use mathlib.Core.Bool.{true, false≢true}
@@ -12,12 +12,27 @@ use Rattle.octets.specs.Fields.{numbers, bytesOf, Fit, field, fieldOf}
 use Rattle.octets.proofs.FieldsLaws.{length-numbers, fit-numbers, bytes-bytesOf, numbers-zeros}
 use Rattle.rules.specs.Lists.{every, zeros}
 use Rattle.rules.specs.Layout.{version1, current, placeFields, placeSize}
-use Rattle.rules.specs.Table.{placeOf, isFree, isLive}
-use Rattle.rules.proofs.ListsLaws.{by-test, zeros-replicate}
+use Rattle.rules.specs.Table.{identityAt, headOf, legalHead, placeOf, isFree, isLive}
+use Rattle.rules.proofs.ListsLaws.{zeros-replicate}
+use Rattle.rules.proofs.TestLaws.{by-test}
 use Rattle.rules.proofs.FitLaws.{numbers-written, numbers-again, length-written}
 use Rattle.rules.proofs.LayoutLaws.{place-size}
-use Rattle.rules.proofs.PlaceCodec.{PlaceRun}
+use Rattle.rules.proofs.PlacesCodec.{PlaceRun}
 use Rattle.table_convert.specs.Wide.{widePlace}
+
+-- ---- a head
+
+pub same-head : (b : List ℕ) → headOf current b ≡ headOf version1 b
+unfolding headOf
+same-head b = refl
+
+pub same-identity : (b : List ℕ) → identityAt current b ≡ identityAt version1 b
+unfolding headOf
+same-identity b = refl
+
+pub same-legal : (b : List ℕ) → legalHead current b ≡ legalHead version1 b
+unfolding legalHead headOf
+same-legal b = refl
 
 -- ---- a place
 

@@ -18,7 +18,7 @@ widePlaces c = flatMap widePlace (placeRuns version1 c)
 
 -- the head stays
 unfoldable pub wideCell : List ℕ → List ℕ
-wideCell c = take headSize c ++ widePlaces c
+wideCell c = take (headSize version1) c ++ widePlaces c
 
 -- of version 1's rules only this is none of the current ones, once a place is widened
 unfoldable pub shortPeriod : List ℕ → Bool

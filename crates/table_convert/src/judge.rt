@@ -1,16 +1,15 @@
-// The judge of a version 1 table. A cell's places are widened and asked the current rules; of version 1's own only its longest period is left to ask.
+// The judge of a table of an older version, which is version 1. A cell's places are widened and asked the current rules; of version 1's own only its longest period is left to ask.
 ghost use mathlib.Core.Path.{_≡_};
 ghost use Prim.Native.Nat.{_*_};
 ghost use lib.ListN.{length};
 ghost use Rattle.octets.specs.Runs.{pieces};
 ghost use Rattle.rules.specs.Layout.{version1, current, placeSize, placesPerCell, cellSize};
 ghost use Rattle.rules.specs.Table.{legalCell};
-ghost use Rattle.rules.specs.Refusals.{tableVerdict};
+ghost use Rattle.rules.specs.Refusals.{olderVerdict};
 ghost use Rattle.table_judge.specs.Judge.{legalRuns};
 ghost use Rattle.table_convert.specs.Wide.{shortPeriods};
 use crate::wide::widen_places;
 use octets::get16;
-use octets::get64;
 use rules::CellIdentity;
 use rules::Refusal;
 use rules::Verdict;
@@ -26,12 +25,13 @@ use rules::layout::PLACES;
 use rules::layout::VERSION_1;
 use table_judge::head_legal;
 use table_judge::header_legal;
+use table_judge::identity_at;
 use table_judge::marked;
 use table_judge::places_legal;
 
-// Any bytes: accepted, or refusal 1 or 2 by version 1's rules.
+// Any bytes: accepted, or refusal 1 if they are no table of an older version, or 2 by that version's rules.
 pub fn verdict(old: &[u8]) -> Verdict
-    ensures { λ r. ⌜ r ≡ tableVerdict version1 (now (old .entry)) ⌝ }
+    ensures { λ r. ⌜ r ≡ olderVerdict (now (old .entry)) ⌝ }
 {
     if !marked(old, VERSION_1) {
         return Verdict::Refused(Refusal::TableMark);
@@ -49,22 +49,22 @@ pub fn verdict(old: &[u8]) -> Verdict
 // `least` is the least NR CGI that may follow; `wide` is where the places of each cell are widened.
 fn old_cells_legal(cells: &[u8], count: usize) -> bool
     requires { ⌜ length (now cells) ≡ cellSize version1 * count ⌝ }
-    ensures { λ r. ⌜ r ≡ legalRuns (legalCell version1) (pieces (cellSize version1) count (now (cells .entry))) ⌝ }
+    ensures { λ r. ⌜ r ≡ legalRuns version1 (legalCell version1) (pieces (cellSize version1) count (now (cells .entry))) ⌝ }
 {
     let mut at: usize = 0;
     let mut left = count;
-    let mut least: u64 = 0;
+    let mut least = CellIdentity(0);
     let mut wide = [0; PLACES * PLACE];
     while 0 < left {
         let end = at + CELL_1;
-        let identity = CellIdentity(get64(cells, at));
-        if identity.0 < least {
+        let identity = identity_at(cells, at);
+        if identity.below(least) {
             return false;
         }
         if !old_cell_legal(&mut wide, &cells[at..end]) {
             return false;
         }
-        least = identity.0 + 1;
+        least = identity.next();
         at = end;
         left -= 1;
     }

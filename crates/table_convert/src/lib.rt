@@ -1,5 +1,5 @@
-// A table of version 1 into the current layout (document 02, 3/13): judged by version 1's rules, then every cell widened into a second buffer.
-pub mod judge;
+// A table of an older version, which is version 1, into the current layout (document 02, 3/13): judged by its own version's rules, then every cell widened into a second buffer.
+mod judge;
 mod wide;
 
 ghost use mathlib.Core.Path.{_≡_};
@@ -9,7 +9,7 @@ ghost use lib.ListN.{length};
 ghost use lib.Seq.{sets};
 ghost use Rattle.octets.specs.Runs.{pieces};
 ghost use Rattle.rules.specs.Layout.{version1, current, headerSize, cellSize};
-ghost use Rattle.rules.specs.Refusals.{tableVerdict};
+ghost use Rattle.rules.specs.Refusals.{olderVerdict};
 ghost use Rattle.rules.specs.declared.Verdict.the-variants.{Accepted};
 ghost use Rattle.rules.specs.Applied.{filledBy, conversion};
 ghost use Rattle.table_convert.specs.Wide.{wideCell};
@@ -25,7 +25,7 @@ use rules::layout::CELLS_AT;
 use rules::layout::HEADER;
 use table_build::put_header;
 
-// Any bytes, any buffer: refusals 1 and 2 of a version 1 table, then 8; else the same cells in the current layout. Bytes beyond stay.
+// Any bytes, any buffer: refusals 1 and 2 of a table of an older version, then 8; else the same cells in the current layout. Bytes beyond stay.
 pub fn convert(old: &[u8], table: &mut [u8]) -> Writing
     ensures { λ r. ⌜ filledBy r (now (table .exit)) ≡ conversion (now (old .entry)) (now (table .entry)) ⌝ }
 {
@@ -37,7 +37,7 @@ pub fn convert(old: &[u8], table: &mut [u8]) -> Writing
 
 // The buffer's length is asked before anything is written.
 fn converted(old: &[u8], table: &mut [u8]) -> Writing
-    requires { ⌜ tableVerdict version1 (now old) ≡ Accepted ⌝ }
+    requires { ⌜ olderVerdict (now old) ≡ Accepted ⌝ }
     ensures { λ r. ⌜ filledBy r (now (table .exit)) ≡ conversion (now (old .entry)) (now (table .entry)) ⌝ }
 {
     let count = get16(old, CELLS_AT) as usize;

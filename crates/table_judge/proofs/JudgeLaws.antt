@@ -17,12 +17,12 @@ use Rattle.rules.specs.Table.{cellCount, cellRuns, legalCell, tableMarked, lega
 use Rattle.rules.specs.Refusals.{tableVerdict}
 use Rattle.rules.specs.declared.Refusal.the-variants.{TableMark, TableWrong}
 use Rattle.rules.specs.declared.Verdict.the-variants.{Accepted, Refused}
-use Rattle.rules.proofs.ListsLaws.{both}
+use Rattle.rules.proofs.TestLaws.{both}
 use Rattle.table_judge.specs.Judge.{legalHeader, legalRuns}
 use Rattle.table_judge.proofs.PiecesLaws.{take-rest}
 
 module _ (v : Version) where
-  table-parts : (t : List ℕ) → legalTable v t ≡ legalHeader (cellSize v) t && legalRuns (legalCell v) (cellRuns v t)
+  table-parts : (t : List ℕ) → legalTable v t ≡ legalHeader (cellSize v) t && legalRuns v (legalCell v) (cellRuns v t)
   unfolding legalTable legalHeader legalRuns
   table-parts t = simp and-assoc
 
@@ -30,8 +30,11 @@ module _ (v : Version) where
   header-size : (t : List ℕ) → legalHeader (cellSize v) t ≡ true → length t ≡ headerSize + cellSize v * cellCount t
   unfolding legalHeader
   header-size t e =
-      let tests = both (leb 1 (cellCount t) && leb (cellCount t) mostCells && eqb (fieldOf headerFields placesInHeader t) placesPerCell && eqb (fieldOf headerFields zeroInHeader t) 0) (eqb (length t) (headerSize + cellSize v * cellCount t)) e in
-      eqb-true (length t) (headerSize + cellSize v * cellCount t) (tests .1)
+      let few = leb 1 (cellCount t) && leb (cellCount t) mostCells in
+      let four = eqb (fieldOf headerFields placesInHeader t) placesPerCell in
+      let spare = eqb (fieldOf headerFields zeroInHeader t) 0 in
+      let size = headerSize + cellSize v * cellCount t in
+      eqb-true (length t) size (both (few && four && spare) (eqb (length t) size) e .1)
 
   -- the header was found legal
   module _ (t : List ℕ) (h : Bool) (eh : h ≡ legalHeader (cellSize v) t) (right : not h ≡ false) where
@@ -61,8 +64,9 @@ module _ (v : Version) where
       pub header-wrong : not h ≡ true → Refused TableWrong ≡ tableVerdict v t
       header-wrong e = refused (table-parts t ∙ rw (← eh, not-true h e))
 
-      module _ (right : not h ≡ false) (n : ℕ) (en : n ≡ be (gets t 5 2)) (r : Bool) (er : r ≡ legalRuns (legalCell v) (pieces (cellSize v) n (take (length t - headerSize) (drop headerSize t)))) where
-        cells : r ≡ legalRuns (legalCell v) (cellRuns v t)
+      module _ (right : not h ≡ false) (n : ℕ) (en : n ≡ be (gets t 5 2))
+          (r : Bool) (er : r ≡ legalRuns v (legalCell v) (pieces (cellSize v) n (take (length t - headerSize) (drop headerSize t)))) where
+        cells : r ≡ legalRuns v (legalCell v) (cellRuns v t)
         cells = er ∙ rw (take-rest, count t h eh right n en)
 
         pub cells-wrong : not r ≡ true → Refused TableWrong ≡ tableVerdict v t

@@ -1,5 +1,6 @@
 pub mod ReadLaws
 pub mod PiecesLaws
+pub mod PassedLaws
 pub mod WalkLaws
 pub mod OrderLaws
 pub mod JudgeLaws

@@ -21,7 +21,8 @@ use Rattle.rules.specs.Table.{isFree, legalPlaces}
 use Rattle.rules.proofs.AllLaws.{all-pieces}
 use Rattle.table_judge.specs.Judge.{legalLive}
 use Rattle.octets.proofs.PiecesLaws.{pieces-more, pieces-none}
-use Rattle.table_judge.proofs.WalkLaws.{liveByte, textAt, noText, walk, walk-starts}
+use Rattle.table_judge.proofs.PassedLaws.{textAt}
+use Rattle.table_judge.proofs.WalkLaws.{liveByte, noText, walk, walk-starts}
 
 pub record PlacesLeft (l : List ℕ) (at left x y z : ℕ) : Type 0 where
   pub few : left ≤ placesPerCell
@@ -60,7 +61,8 @@ module _ {l : List ℕ} {at left x y z : ℕ} (p : PlacesLeft l at left x y z) (
     places-free e = p .rest ∙ rw (pieces-more (placeSize current) left at l h, ← live-here, ← ev, e)
 
     module _ (n : v ≡ 0 → ⊥) (t : ℕ) (et : t ≡ be (gets l at 4)) (r : Bool) (er : r ≡ legalLive (take (at + placeSize current - at) (drop at l))) where
-      turn : legalPlaces current (pieces (placeSize current) placesPerCell l) ≡ r && not (eqb t x) && not (eqb t y) && not (eqb t z) && walk t x y (pieces (placeSize current) (left - 1) (drop (at + placeSize current) l))
+      turn : legalPlaces current (pieces (placeSize current) placesPerCell l)
+          ≡ r && not (eqb t x) && not (eqb t y) && not (eqb t z) && walk t x y (pieces (placeSize current) (left - 1) (drop (at + placeSize current) l))
       unfolding walk
       turn =
           let k : at + placeSize current - at ≡ placeSize current = omega arith in

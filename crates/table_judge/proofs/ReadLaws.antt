@@ -4,20 +4,21 @@ use mathlib.Core.Path.{_≡_, refl, sym, ap, _∙_}
 use mathlib.Core.Bool.{Bool, false, _&&_, and-assoc, and-true, and-false}
 use mathlib.Core.List.{List, [], _∷_}
 use Prim.Native.Nat.{ℕ, _+_, _*_, _/_, _%_, _^_, _≤_, _<_}
-use native.Mathlib.Nat.{mul-le-mul-right}
+use native.Mathlib.Nat.{add-zero, mul-le-mul-right}
 use native.Mathlib.Omega.{arith}
 use borrow.Author.Tests.{ne-eqb, lt-leb}
 use lib.Dec.{eqb, ltb}
-use lib.ListN.{length}
+use lib.ListN.{length, take, drop, length-drop}
+use lib.Seq.{length-take-le, take-all}
 use Rattle.octets.specs.Runs.{gets, Bytes}
 use Rattle.octets.specs.Numbers.{be}
 use Rattle.octets.specs.Fields.{offset, numbers, fieldOf}
-use Rattle.octets.proofs.RunsLaws.{length-gets, bytes-gets}
+use Rattle.octets.proofs.RunsLaws.{length-gets, bytes-gets, gets-eq, gets-gets}
 use Rattle.octets.proofs.NumbersLaws.{be-lt, be-run}
 use Rattle.octets.proofs.FieldsLaws.{field-at}
 use Rattle.rules.specs.Lists.{every, zeros, above, ascending}
-use Rattle.rules.specs.Layout.{headFields, headerSize, headSize, cellEnd}
-use Rattle.rules.specs.Table.{headOf, areasUsed, allAreas, legalHead, isFree, cellCount}
+use Rattle.rules.specs.Layout.{current, headFields, identityInHead, headerSize, headSize, cellEnd}
+use Rattle.rules.specs.Table.{headOf, areasUsed, allAreas, legalHead, isFree, cellCount, identityAt}
 use Rattle.rules.proofs.ZerosLaws.{be-zero, zeros-run}
 use Rattle.table_judge.specs.Judge.{legalAreas, legalHeader}
 
@@ -38,14 +39,14 @@ free-wide l i = simp be-zero (rw (zeros-run 8 8 l i (i + 8) refl, zeros-run 16 8
 abbrev area : List ℕ → ℕ → ℕ
 area l i = be (gets l i 3)
 
-pub areas-at : (l : List ℕ) → length l ≡ headSize → area l 12 ∷ area l 15 ∷ area l 18 ∷ area l 21 ∷ [] ≡ allAreas l
+pub areas-at : (l : List ℕ) → length l ≡ headSize current → area l 12 ∷ area l 15 ∷ area l 18 ∷ area l 21 ∷ [] ≡ allAreas current l
 unfolding offset fieldOf numbers
 areas-at l whole =
     rw (
-      ← field-at headFields 3 l (omega (arith, whole)),
-      ← field-at headFields 4 l (omega (arith, whole)),
-      ← field-at headFields 5 l (omega (arith, whole)),
-      ← field-at headFields 6 l (omega (arith, whole)),
+      ← field-at (headFields current) 3 l (omega (arith, whole)),
+      ← field-at (headFields current) 4 l (omega (arith, whole)),
+      ← field-at (headFields current) 5 l (omega (arith, whole)),
+      ← field-at (headFields current) 6 l (omega (arith, whole)),
     )
 
 -- all four are zero
@@ -111,9 +112,17 @@ module _ (l : List ℕ) (bytes : Bytes l) (i : ℕ) {x : ℕ} (e : x ≡ be (get
 
 -- ---- a head, a header
 
-pub head-parts : (b : List ℕ) → ltb (headOf b .identity) cellEnd && legalAreas (areasUsed b) (allAreas b) ≡ legalHead b
+pub head-parts : (b : List ℕ) → length b ≡ headSize current → ltb (identityAt current b) cellEnd && legalAreas (areasUsed current b) (allAreas current b) ≡ legalHead current b
 unfolding legalHead legalAreas headOf
-head-parts b = simp and-assoc
+head-parts b long = rw (take-all (headSize current) b (omega arith)) (simp and-assoc)
+
+-- what stands first in the head from an index on
+pub identity-read : (l : List ℕ) (at : ℕ) → at + headSize current ≤ length l → be (gets l at 8) ≡ identityAt current (drop at l)
+unfolding headOf offset
+identity-read l at fits =
+    let long : length (take (headSize current) (drop at l)) ≡ headSize current = length-take-le (headSize current) (drop at l) (rw length-drop (omega arith)) in
+    let first = field-at (headFields current) identityInHead (take (headSize current) (drop at l)) (omega (arith, long)) in
+    rw (first, ← gets-eq (headSize current) l at fits, gets-gets 8 (headSize current) l at 0 (omega arith), add-zero)
 
 pub header-short : (size : ℕ) (t : List ℕ) → length t < headerSize → false ≡ legalHeader size t
 unfolding legalHeader

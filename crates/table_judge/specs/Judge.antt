@@ -6,7 +6,7 @@ use lib.Dec.{eqb, leb}
 use lib.ListN.{length, take, drop}
 use Rattle.octets.specs.Fields.{fieldOf}
 use Rattle.rules.specs.Lists.{every, zeros, ascending}
-use Rattle.rules.specs.Layout.{current, placesInHeader, zeroInHeader, headerFields, placesPerCell, mostAreas, headerSize, mostCells}
+use Rattle.rules.specs.Layout.{Version, current, placesInHeader, zeroInHeader, headerFields, placesPerCell, mostAreas, headerSize, mostCells}
 use Rattle.rules.specs.Table.{isLive, placeOf, legalPlace, cellCount, identityAt}
 
 -- at most four are used, the used ones come first and ascend, the rest is zero
@@ -25,6 +25,6 @@ legalHeader size t =
     && eqb (fieldOf headerFields zeroInHeader t) 0
     && eqb (length t) (headerSize + size * cellCount t)
 
--- runs of bytes that f finds legal, strictly ascending by NR CGI
-unfoldable pub legalRuns : (List ℕ → Bool) → List (List ℕ) → Bool
-legalRuns f bs = every f bs && ascending (map identityAt bs)
+-- runs of bytes, cells or heads of a version, that f finds legal, strictly ascending by NR CGI
+unfoldable pub legalRuns : Version → (List ℕ → Bool) → List (List ℕ) → Bool
+legalRuns v f bs = every f bs && ascending (map (identityAt v) bs)

@@ -6,9 +6,12 @@ ghost use Rattle.octets.specs.Numbers.{be};
 ghost use Rattle.octets.specs.Runs.{gets, pieces};
 ghost use Rattle.rules.specs.Lists.{larger, every};
 ghost use Rattle.rules.specs.Layout.{current, headSize, placeSize, placesPerCell, cellSize};
-ghost use Rattle.rules.specs.Table.{allAreas, legalHead, placeOf, isFree, legalPlace, legalPlaces, legalCell, tableMarked};
+ghost use Rattle.rules.specs.Table.{identityAt, allAreas, legalHead, placeOf, isFree, legalPlace, legalPlaces, legalCell, tableMarked};
+ghost use Rattle.rules.specs.Identity.{identityNumber};
 ghost use Rattle.rules.specs.Refusals.{tableVerdict};
 ghost use Rattle.table_judge.specs.Judge.{legalAreas, legalLive, legalHeader, legalRuns};
+use octets::BYTES_32;
+use octets::BYTES_64;
 use octets::get8;
 use octets::get16;
 use octets::get32;
@@ -48,17 +51,12 @@ use rules::layout::VERSION_AT;
 use rules::layout::WAIT_AT;
 use rules::layout::ZEROS_AT;
 
-// What one `get32` reads, and one `get64`.
-const WORD: usize = 4;
-
-const LONG: usize = 8;
-
-// Where areas stand in a head, and the word that ends with the last of them.
+// Where areas stand in a head, and the four bytes that end with the last of them.
 const SECOND_AREA_AT: usize = AREAS_AT + AREA;
 
 const THIRD_AREA_AT: usize = AREAS_AT + 2 * AREA;
 
-const LAST_WORD_AT: usize = HEAD - WORD;
+const LAST_FOUR_AT: usize = HEAD - BYTES_32;
 
 // Above every identifier with its serial number: stands where there is none.
 const NO_TEXT: u64 = 1 << 32;
@@ -108,25 +106,33 @@ pub fn header_legal(table: &[u8], cell: usize) -> bool
 // `least` is the least NR CGI that may follow.
 fn cells_legal(cells: &[u8], count: usize) -> bool
     requires { ⌜ length (now cells) ≡ cellSize current * count ⌝ }
-    ensures { λ r. ⌜ r ≡ legalRuns (legalCell current) (pieces (cellSize current) count (now (cells .entry))) ⌝ }
+    ensures { λ r. ⌜ r ≡ legalRuns current (legalCell current) (pieces (cellSize current) count (now (cells .entry))) ⌝ }
 {
     let mut at: usize = 0;
     let mut left = count;
-    let mut least: u64 = 0;
+    let mut least = CellIdentity(0);
     while 0 < left {
         let end = at + CELL;
-        let identity = CellIdentity(get64(cells, at));
-        if identity.0 < least {
+        let identity = identity_at(cells, at);
+        if identity.below(least) {
             return false;
         }
         if !cell_legal(&cells[at..end]) {
             return false;
         }
-        least = identity.0 + 1;
+        least = identity.next();
         at = end;
         left -= 1;
     }
     true
+}
+
+// The NR CGI of the cell or head from an index on. The builder and the converter ask this too.
+pub fn identity_at(runs: &[u8], at: usize) -> CellIdentity
+    requires { ⌜ at + headSize current ≤ length (now runs) ⌝ }
+    ensures { λ r. ⌜ identityNumber r ≡ identityAt current (drop at (now (runs .entry))) ⌝ }
+{
+    CellIdentity(get64(runs, at))
 }
 
 fn cell_legal(cell: &[u8]) -> bool
@@ -138,19 +144,19 @@ fn cell_legal(cell: &[u8]) -> bool
 
 // The builder and the converter ask this too.
 pub fn head_legal(head: &[u8]) -> bool
-    requires { ⌜ length (now head) ≡ headSize ⌝ }
-    ensures { λ r. ⌜ r ≡ legalHead (now (head .entry)) ⌝ }
+    requires { ⌜ length (now head) ≡ headSize current ⌝ }
+    ensures { λ r. ⌜ r ≡ legalHead current (now (head .entry)) ⌝ }
 {
-    (get64(head, 0) < CELL_END) & areas_legal(head, get8(head, AREAS_USED_AT))
+    (identity_at(head, 0).0 < CELL_END) & areas_legal(head, get8(head, AREAS_USED_AT))
 }
 
 // A test for each number of areas: the used ones first and ascending, the rest zero. Each asks no more than it needs.
 fn areas_legal(head: &[u8], used: u8) -> bool
-    requires { ⌜ length (now head) ≡ headSize ⌝ }
-    ensures { λ r. ⌜ r ≡ legalAreas used (allAreas (now (head .entry))) ⌝ }
+    requires { ⌜ length (now head) ≡ headSize current ⌝ }
+    ensures { λ r. ⌜ r ≡ legalAreas used (allAreas current (now (head .entry))) ⌝ }
 {
     if used == 0 {
-        return (get64(head, AREAS_AT) == 0) & (get32(head, LAST_WORD_AT) == 0);
+        return (get64(head, AREAS_AT) == 0) & (get32(head, LAST_FOUR_AT) == 0);
     }
     if used == 1 {
         return (get8(head, SECOND_AREA_AT) == 0) & (get64(head, SECOND_AREA_AT + 1) == 0);
@@ -158,10 +164,10 @@ fn areas_legal(head: &[u8], used: u8) -> bool
     let a = upper24(head, AREAS_AT);
     let b = upper24(head, SECOND_AREA_AT);
     if used == 2 {
-        return (a < b) & (get16(head, THIRD_AREA_AT) == 0) & (get32(head, LAST_WORD_AT) == 0);
+        return (a < b) & (get16(head, THIRD_AREA_AT) == 0) & (get32(head, LAST_FOUR_AT) == 0);
     }
     let c = upper24(head, THIRD_AREA_AT);
-    let d = lower24(head, LAST_WORD_AT);
+    let d = lower24(head, LAST_FOUR_AT);
     if used == 3 {
         return (a < b) & (b < c) & (d == 0);
     }
@@ -242,7 +248,9 @@ fn place_free(places: &[u8], at: usize) -> bool
     requires { ⌜ at + placeSize current ≤ length (now places) ⌝ }
     ensures { λ r. ⌜ r ≡ isFree (gets (now (places .entry)) at (placeSize current)) ⌝ }
 {
-    (get64(places, at) == 0) & (get64(places, at + LONG) == 0) & (get64(places, at + 2 * LONG) == 0)
+    (get64(places, at) == 0)
+        & (get64(places, at + BYTES_64) == 0)
+        & (get64(places, at + 2 * BYTES_64) == 0)
 }
 
 fn live_legal(place: &[u8]) -> bool

@@ -24,7 +24,7 @@ same-length c = search needs
 returns : tie.Need-returns
 returns c =
     let a = c .before .before .before .before .before .args in
-    c .before .before .store .ensures ∙ ap (sets (a .cell .now) (headSize + placeSize current * a .k)) no-words
+    c .before .before .store .ensures ∙ ap (sets (a .cell .now) ((headSize current) + placeSize current * a .k)) no-words
 
 pub clear-spec : {M : Type 1} → statement M
 clear-spec = tie.close (tie.spec mul-store add-store store-requires same-length returns)

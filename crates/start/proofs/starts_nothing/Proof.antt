@@ -10,6 +10,9 @@ use Rattle.start.proofs.RowLaws.{tests-small, entry-decides}
 use Rattle.start.proofs.starts_nothing.Statement.{statement}
 use Rattle.start.proofs.starts_nothing.Tie as tie
 
+concurrent-requires : tie.Need-concurrent-requires
+concurrent-requires c κs = search needs
+
 cast-concurrent : tie.Need-cast-concurrent
 cast-concurrent c = search needs
 
@@ -23,33 +26,34 @@ cast-period : tie.Need-cast-period
 cast-period c = search needs
 
 add-requested : tie.Need-add-requested
-add-requested c = record { fits = omega (arith, tests-small (c .before .before .before .args .request)) }
+add-requested c = record { fits = omega (arith, tests-small (c .before .before .concurrent .result) (c .before .before .before .args .request)) }
 
 mul-result : tie.Need-mul-result
-mul-result c = record { fits = omega (arith, tests-small (c .before .before .before .before .before .args .request)) }
+mul-result c = record { fits = omega (arith, tests-small (c .before .before .before .before .concurrent .result) (c .before .before .before .before .before .args .request)) }
 
 mul-result-2 : tie.Need-mul-result-2
-mul-result-2 c = record { fits = omega (arith, tests-small (c .before .before .before .before .before .args .request)) }
+mul-result-2 c = record { fits = omega (arith, tests-small (c .before .before .before .before .concurrent .result) (c .before .before .before .before .before .args .request)) }
 
 add-result : tie.Need-add-result
-add-result c = record { fits = omega (arith, tests-small (c .before .before .before .before .before .args .request)) }
+add-result c = record { fits = omega (arith, tests-small (c .before .before .before .before .concurrent .result) (c .before .before .before .before .before .args .request)) }
 
 add-result-2 : tie.Need-add-result-2
-add-result-2 c = record { fits = omega (arith, tests-small (c .before .before .before .before .before .args .request)) }
+add-result-2 c = record { fits = omega (arith, tests-small (c .before .before .before .before .concurrent .result) (c .before .before .before .before .before .args .request)) }
 
 array-read-result : tie.Need-array-read-result
-array-read-result c = omega (arith, tests-small (c .before .before .before .before .before .args .request))
+array-read-result c = omega (arith, tests-small (c .before .before .before .before .concurrent .result) (c .before .before .before .before .before .args .request))
 
 returns : tie.Need-returns
 unfolding startsNothing
 returns c =
     let q = c .before .before .before .before .before .args .request in
-    ap (λ (b : Bool). not (isPrimary q) && b) (entry-decides q)
+    ap (λ (b : Bool). not (isPrimary q) && b) (entry-decides q (c .before .before .before .before .concurrent .ensures))
 
 pub starts-nothing-spec : {M : Type 1} → statement M
 starts-nothing-spec =
     tie.close
     (tie.spec
+    concurrent-requires
     cast-concurrent
     cast-requested
     cast-requested-2

@@ -36,7 +36,8 @@ returns-3 : tie.Need-returns-3
 returns-3 c =
     let header = c .before .before .before .before .before .before in
     let tests = header .before .before .before in
-    table-built _ _ _ (tests .before .heads-legal .ensures) (tests .if1 .left) (λ i. tests .before .before .before .shared-slice-known .given i .fits) (header .before .before .if2 .left) (header .put-header .ensures) (c .before .before .put-cells .ensures)
+    table-built _ _ _ (tests .before .heads-legal .ensures) (tests .if1 .left) (λ i. tests .before .before .before .shared-slice-known .given i .fits)
+    (header .before .before .if2 .left) (header .put-header .ensures) (c .before .before .put-cells .ensures)
 
 pub build-spec : {M : Type 1} → statement M
 build-spec =

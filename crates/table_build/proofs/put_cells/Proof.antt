@@ -1,20 +1,20 @@
 -- `put_cells` stores an empty cell for each head behind the header, and nothing else.
 -- The invariant, `CellsLeft`: what is stored is, with what is left, the whole.
 use borrow.Author.Needs.{needs}
-use Rattle.rules.specs.Layout.{headSize}
+use Rattle.rules.specs.Layout.{current, headSize}
 use Rattle.table_build.specs.Build.{emptyRun}
 use Rattle.table_build.proofs.BuildLaws.{length-emptyRun, CellsLeft, cells-start, cells-on, cells-end}
 use Rattle.table_build.proofs.put_cells.Statement.{statement}
 use Rattle.table_build.proofs.put_cells.Tie as tie
 
 abbrev Inv-loop : tie.InvT-loop
-Inv-loop table₀ heads count from₀ at₀ left₀ table from at left = CellsLeft emptyRun headSize table₀ heads count table from at left
+Inv-loop table₀ heads count from₀ at₀ left₀ table from at left = CellsLeft emptyRun (headSize current) table₀ heads count table from at left
 
 abbrev μ-loop : tie.MeasureT-loop
 μ-loop table₀ heads count from₀ at₀ left₀ table from at left = left
 
 loop-holds : tie.Need-loop-holds Inv-loop μ-loop
-loop-holds c = cells-start emptyRun headSize _ _ _ (c .before .before .pre .0) (c .before .before .pre .1)
+loop-holds c = cells-start emptyRun (headSize current) _ _ _ (c .before .before .pre .0) (c .before .before .pre .1)
 
 add-next : tie.Need-add-next Inv-loop μ-loop
 add-next c = search needs
@@ -52,13 +52,13 @@ loop-less c = search needs
 loop-again : tie.Need-loop-again Inv-loop μ-loop
 loop-again c =
     let loop = c .before .before .before .before .before .before in
-    cells-on emptyRun headSize length-emptyRun (loop .loop .inv) (c .before .before .before .before .before .loop-test .taken) _ (c .before .before .put-cell .ensures)
+    cells-on emptyRun (headSize current) length-emptyRun (loop .loop .inv) (c .before .before .before .before .before .loop-test .taken) _ (c .before .before .put-cell .ensures)
 
 same-length : tie.Need-same-length Inv-loop μ-loop
 same-length c = search needs
 
 returns : tie.Need-returns Inv-loop μ-loop
-returns c = cells-end emptyRun headSize (c .before .loop .inv) (c .loop-test .left)
+returns c = cells-end emptyRun (headSize current) (c .before .loop .inv) (c .loop-test .left)
 
 pub put-cells-spec : {M : Type 1} → statement M
 put-cells-spec =

@@ -39,7 +39,10 @@ same-length : tie.Need-same-length
 same-length c = search needs
 
 returns : tie.Need-returns
-returns c = header-stored (c .before .before .before .before .before .before .before .before .before .args .count) (c .before .before .before .before .before .before .before .before .before .pre .1) (c .before .before .before .before .before .before .before .before .before .args .table .now) (c .before .before .before .before .before .before .put64 .ensures) (c .before .before .put642 .ensures)
+returns c =
+    let first = c .before .before .before .before .before .before in
+    let start = first .before .before .before in
+    header-stored (start .args .count) (start .pre .1) (start .args .table .now) (first .put64 .ensures) (c .before .before .put642 .ensures)
 
 pub put-header-spec : {M : Type 1} → statement M
 put-header-spec =

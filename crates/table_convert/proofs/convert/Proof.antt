@@ -1,5 +1,5 @@
 -- `convert` leaves and answers what `conversion` says of any bytes.
--- What version 1's judge refuses is refused; the rest is `converted`.
+-- What the judge of an older version refuses is refused; the rest is `converted`.
 use mathlib.Core.Path.{sym, _∙_}
 use borrow.Author.Needs.{needs}
 use Rattle.table_convert.proofs.ConvertLaws.{old-refused}

@@ -19,7 +19,7 @@ add-length : tie.Need-add-length
 add-length c = search needs
 
 returns : tie.Need-returns
-returns c = room-short _ (c .before .before .before .before .pre) _ (c .before .get16 .ensures) (c .if1 .taken)
+returns c = room-short _ (c .before .before .before .before .pre) _ (c .before .get16 .ensures) (omega (arith, c .if1 .taken))
 
 put-header-requires : tie.Need-put-header-requires
 put-header-requires c κs =
@@ -38,8 +38,10 @@ part-put-cells-end c = search needs
 
 put-cells-requires : tie.Need-put-cells-requires
 put-cells-requires c κs =
-    let size = old-size _ (c .before .before .before .before .before .before .before .before .before .before .pre) in
-    let count = old-count _ (c .before .before .before .before .before .before .before .before .before .before .pre) (c .before .before .before .before .before .before .before .get16 .ensures) in
+    let count = c .before .before .before .before .before .before .before in
+    let start = count .before .before .before in
+    let size = old-size _ (start .pre) in
+    let few = old-count _ (start .pre) (count .get16 .ensures) in
     (omega arith, omega arith)
 
 same-length : tie.Need-same-length
@@ -47,7 +49,11 @@ same-length c = search needs
 
 returns-2 : tie.Need-returns-2
 returns-2 c =
-    table-converted _ (c .before .before .before .before .before .before .before .before .before .before .before .before .before .pre) (λ i. c .before .before .before .before .before .before .before .before .before .before .before .before .shared-slice-known .given i .fits) _ (c .before .before .before .before .before .before .before .before .before .before .get16 .ensures) (c .before .before .before .before .before .before .before .before .before .if1 .left) (c .before .before .before .before .before .before .before .put-header .ensures) (c .before .before .put-cells .ensures)
+    let header = c .before .before .before .before .before .before .before in
+    let count = header .before .before .before in
+    let start = count .before .before .before in
+    table-converted _ (start .pre) (λ i. count .before .before .shared-slice-known .given i .fits) _ (count .get16 .ensures) (omega (arith, header .before .before .if1 .left))
+    (header .put-header .ensures) (c .before .before .put-cells .ensures)
 
 pub converted-spec : {M : Type 1} → statement M
 converted-spec =

@@ -47,14 +47,16 @@ returns-3 c =
     let count = c .before .before .before in
     let header = count .before .before in
     let mark = header .before .before in
-    cells-wrong current _ _ (mark .marked .ensures) (header .before .if1 .left) _ (header .header-legal .ensures) (count .before .if2 .left) _ (count .get16 .ensures) _ (c .before .cells-legal .ensures) (c .if3 .taken)
+    cells-wrong current _ _ (mark .marked .ensures) (header .before .if1 .left) _ (header .header-legal .ensures) (count .before .if2 .left)
+    _ (count .get16 .ensures) _ (c .before .cells-legal .ensures) (c .if3 .taken)
 
 returns-4 : tie.Need-returns-4
 returns-4 c =
     let count = c .before .before .before in
     let header = count .before .before in
     let mark = header .before .before in
-    table-right current _ _ (mark .marked .ensures) (header .before .if1 .left) _ (header .header-legal .ensures) (count .before .if2 .left) _ (count .get16 .ensures) _ (c .before .cells-legal .ensures) (c .if3 .left)
+    table-right current _ _ (mark .marked .ensures) (header .before .if1 .left) _ (header .header-legal .ensures) (count .before .if2 .left)
+    _ (count .get16 .ensures) _ (c .before .cells-legal .ensures) (c .if3 .left)
 
 pub verdict-spec : {M : Type 1} → statement M
 verdict-spec =

@@ -24,11 +24,8 @@ enum-told c = search needs
 grant-requires : tie.Need-grant-requires
 grant-requires c κs = sym (c .before .before .before .before .verdict .ensures) ∙ c .before .before .enum-told .given .1
 
-mul-t9 : tie.Need-mul-t9
-mul-t9 c = search needs
-
-add-t14 : tie.Need-add-t14
-add-t14 c = search needs
+length-with-requires : tie.Need-length-with-requires
+length-with-requires c κs = search needs
 
 same-length-2 : tie.Need-same-length-2
 same-length-2 c = search needs
@@ -37,7 +34,11 @@ same-length-3 : tie.Need-same-length-3
 same-length-3 c = search needs
 
 returns-2 : tie.Need-returns-2
-returns-2 c = granted-applied _ _ _ _ _ _ (sym (c .before .before .before .before .before .before .before .before .before .verdict .ensures) ∙ c .before .before .before .before .before .before .before .enum-told .given .1) (c .before .before .before .before .grant .ensures)
+returns-2 c =
+    let granted = c .before .before .before .before .before in
+    let told = granted .before .before .before in
+    let accepted = sym (told .before .before .verdict .ensures) ∙ told .enum-told .given .1 in
+    rw (c .length-with .ensures) (granted-applied _ _ _ _ _ _ accepted (granted .grant .ensures))
 
 pub apply-spec : {M : Type 1} → statement M
 apply-spec =
@@ -49,8 +50,7 @@ apply-spec =
     returns
     enum-told
     grant-requires
-    mul-t9
-    add-t14
+    length-with-requires
     same-length-2
     same-length-3
     returns-2)

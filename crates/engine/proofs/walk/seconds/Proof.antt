@@ -21,7 +21,7 @@ use Rattle.engine.proofs.walk.seconds.Tie as tie
 abbrev Inv-cells : tie.InvT-cells
 Inv-cells table₀ cells req answer₀ at₀ out₀ rows₀ left₀ table answer at out rows left =
     GoingOn (requestOf req) (itemsOf req) (tableAfter (requestOf req) (itemsOf req) table₀ (cellRuns current table₀))
-    (sets answer₀ answerSize (flatMap rowBytes (rowsAfter (requestOf req) (itemsOf req) (cellRuns current table₀))))
+    (sets answer₀ (answerSize current) (flatMap (rowBytes current) (rowsAfter (requestOf req) (itemsOf req) (cellRuns current table₀))))
     (length (rowsAfter (requestOf req) (itemsOf req) (cellRuns current table₀))) (placesPerCell * mostCells) (length table₀) (length answer₀) table answer at out rows left
 
 abbrev μ-cells : tie.MeasureT-cells

@@ -34,7 +34,7 @@ abbrev μ-items : tie.MeasureT-items
 abbrev Inv-cells : tie.InvT-cells
 Inv-cells table₀ cells req items request new answer₀ area at₀ out₀ rows₀ left₀ table answer at out rows left =
     GoingOn request (itemsOf req) (tableAfter request (itemsOf req) table₀ (cellRuns current table₀))
-    (sets answer₀ answerSize (flatMap rowBytes (rowsAfter request (itemsOf req) (cellRuns current table₀))))
+    (sets answer₀ (answerSize current) (flatMap (rowBytes current) (rowsAfter request (itemsOf req) (cellRuns current table₀))))
     (length (rowsAfter request (itemsOf req) (cellRuns current table₀))) (placesPerCell * mostCells) (length table₀) (length answer₀) table answer at out rows left
 
 abbrev μ-cells : tie.MeasureT-cells

@@ -1,29 +1,41 @@
 -- `start_in_cell` does what document 01's Write-Replace says where the zero rules let it start.
 -- The search says whether the text runs and which place is the first free one; then by the rule's tests, in order.
+use mathlib.Core.Path.{_≡_, sym, _∙_}
+use mathlib.Core.Bool.{true, false}
 use native.Mathlib.Omega.{arith}
-use borrow.Author.Tests.{eq-eqb, ne-eqb}
+use borrow.Author.Tests.{not-true, not-false}
+use Rattle.rules.specs.Record.{concurrent}
 use Rattle.in_cell.proofs.ReadyLaws.{ready-formed}
-use Rattle.in_cell.proofs.StartLaws.{begun, new-one, start-repeats, free-here, free-first, start-alone, start-behind, start-nowhere}
+use Rattle.in_cell.proofs.StartLaws.{Begun, begun, new-one, start-repeats, free-here, free-first, start-alone, start-behind, start-nowhere}
 use borrow.Author.Needs.{needs}
 use Rattle.in_cell.proofs.start.start_in_cell.Statement.{statement}
 use Rattle.in_cell.proofs.start.start_in_cell.Tie as tie
 
-cast-seek : tie.Need-cast-seek
-cast-seek c = search needs
+-- ---- behind the search
 
-mul-seek : tie.Need-mul-seek
-mul-seek c = search needs
+abbrev entry : tie.After-seek → tie.Start
+entry k = k .before .before .before .before .before .before
 
-cast-seek-2 : tie.Need-cast-seek-2
-cast-seek-2 c = search needs
+sought : (k : tie.After-seek) → Begun (entry k .args .cell .now) (entry k .args .out .now) (entry k .args .new .now) (entry k .args .request) (k .seek .result .at) (k .seek .result .found)
+sought k =
+    begun (entry k .args .cell .now) (entry k .args .out .now) (entry k .args .new .now) (entry k .args .request) (entry k .pre) (λ i. k .before .before .before .before .before .slice-known .given i .fits) (omega arith) (k .before .text .ensures) (k .seek .ensures)
 
-add-seek : tie.Need-add-seek
-add-seek c = search needs
+-- flag 1 is absent, or there
+alone : (c : tie.Then2) → concurrent (entry (c .before .before .before) .args .request) ≡ false
+alone c = sym (c .before .concurrent .ensures) ∙ not-true _ (c .if2 .taken)
+
+more : (c : tie.Else2) → concurrent (entry (c .before .before .before) .args .request) ≡ true
+more c = sym (c .before .concurrent .ensures) ∙ not-false _ (c .if2 .left)
+
+-- ---- the steps
+
+text-requires : tie.Need-text-requires
+text-requires c κs = search needs
 
 seek-requires : tie.Need-seek-requires
 seek-requires c κs =
-    let s = c .before .before .before .before .before .before in
-    ready-formed (s .args .cell .now) (s .args .out .now) 1 (s .pre .0) (λ i. c .before .before .before .before .before .slice-known .given i .fits)
+    let s = c .before .before .before .before .before in
+    ready-formed (s .args .cell .now) (s .args .out .now) 1 (s .pre .0) (λ i. c .before .before .before .before .slice-known .given i .fits)
 
 report-requires : tie.Need-report-requires
 report-requires c κs = search needs
@@ -35,11 +47,10 @@ same-length-2 : tie.Need-same-length-2
 same-length-2 c = search needs
 
 returns : tie.Need-returns
-returns c =
-    let k = c .before .before .before .before .before .before in
-    let s = k .before .before .before .before .before .before .before in
-    let b = begun (s .args .cell .now) (s .args .out .now) (s .args .new .now) (s .args .request) (s .pre) (λ i. k .before .before .before .before .before .before .slice-known .given i .fits) (omega arith) (k .seek .ensures) in
-    start-repeats b (c .before .before .before .before .before .if1 .taken) (c .before .before .report .ensures)
+returns c = start-repeats (sought (c .before .before .before .before .before .before)) (c .before .before .before .before .before .if1 .taken) (c .before .before .report .ensures)
+
+concurrent-requires : tie.Need-concurrent-requires
+concurrent-requires c κs = search needs
 
 report-requires-2 : tie.Need-report-requires-2
 report-requires-2 c κs = search needs
@@ -50,9 +61,7 @@ free-all-requires c κs = search needs
 add-place-requires : tie.Need-add-place-requires
 add-place-requires c κs =
     let k = c .before .before .before .before .before .before .before .before .before .before .before .before .before in
-    let s = k .before .before .before .before .before .before .before in
-    let b = begun (s .args .cell .now) (s .args .out .now) (s .args .new .now) (s .args .request) (s .pre) (λ i. k .before .before .before .before .before .before .slice-known .given i .fits) (omega arith) (k .seek .ensures) in
-    (free-first b (c .before .before .before .before .before .before .before .before .before .before .before .before .if1 .left) (ne-eqb _ _ (c .before .before .before .before .before .before .before .before .before .before .if2 .taken)) (c .before .before .before .free-all .ensures), new-one (s .args .request) (s .args .new .now) (s .pre .1))
+    (free-first (sought k) (c .before .before .before .before .before .before .before .before .before .before .before .before .if1 .left) (alone (c .before .before .before .before .before .before .before .before .before .before)) (c .before .before .before .free-all .ensures), new-one (entry k .args .request) (entry k .args .new .now) (entry k .pre .1))
 
 same-length-3 : tie.Need-same-length-3
 same-length-3 c = search needs
@@ -62,10 +71,7 @@ same-length-4 c = search needs
 
 returns-2 : tie.Need-returns-2
 returns-2 c =
-    let k = c .before .before .before .before .before .before .before .before .before .before .before .before .before .before .before .before in
-    let s = k .before .before .before .before .before .before .before in
-    let b = begun (s .args .cell .now) (s .args .out .now) (s .args .new .now) (s .args .request) (s .pre) (λ i. k .before .before .before .before .before .before .slice-known .given i .fits) (omega arith) (k .seek .ensures) in
-    start-alone b (c .before .before .before .before .before .before .before .before .before .before .before .before .before .before .before .if1 .left) (ne-eqb _ _ (c .before .before .before .before .before .before .before .before .before .before .before .before .before .if2 .taken)) (c .before .before .before .before .before .before .free-all .ensures) (c .before .before .add-place .ensures) (c .before .before .before .before .before .before .before .before .before .before .report2 .ensures)
+    start-alone (sought (c .before .before .before .before .before .before .before .before .before .before .before .before .before .before .before .before)) (c .before .before .before .before .before .before .before .before .before .before .before .before .before .before .before .if1 .left) (alone (c .before .before .before .before .before .before .before .before .before .before .before .before .before)) (c .before .before .before .before .before .before .free-all .ensures) (c .before .before .add-place .ensures) (c .before .before .before .before .before .before .before .before .before .before .report2 .ensures)
 
 report-requires-3 : tie.Need-report-requires-3
 report-requires-3 c κs = search needs
@@ -73,9 +79,7 @@ report-requires-3 c κs = search needs
 add-place-requires-2 : tie.Need-add-place-requires-2
 add-place-requires-2 c κs =
     let k = c .before .before .before .before .before .before .before .before .before .before in
-    let s = k .before .before .before .before .before .before .before in
-    let b = begun (s .args .cell .now) (s .args .out .now) (s .args .new .now) (s .args .request) (s .pre) (λ i. k .before .before .before .before .before .before .slice-known .given i .fits) (omega arith) (k .seek .ensures) in
-    (free-here b (c .before .before .before .before .before .before .before .before .before .if1 .left) (c .before .before .before .before .before .before .if3 .taken), new-one (s .args .request) (s .args .new .now) (s .pre .1))
+    (free-here (sought k) (c .before .before .before .before .before .before .before .before .before .if1 .left) (c .before .before .before .before .before .before .if3 .taken), new-one (entry k .args .request) (entry k .args .new .now) (entry k .pre .1))
 
 same-length-5 : tie.Need-same-length-5
 same-length-5 c = search needs
@@ -85,34 +89,25 @@ same-length-6 c = search needs
 
 returns-3 : tie.Need-returns-3
 returns-3 c =
-    let k = c .before .before .before .before .before .before .before .before .before .before .before .before .before in
-    let s = k .before .before .before .before .before .before .before in
-    let b = begun (s .args .cell .now) (s .args .out .now) (s .args .new .now) (s .args .request) (s .pre) (λ i. k .before .before .before .before .before .before .slice-known .given i .fits) (omega arith) (k .seek .ensures) in
-    start-behind b (c .before .before .before .before .before .before .before .before .before .before .before .before .if1 .left) (eq-eqb _ _ (c .before .before .before .before .before .before .before .before .before .before .if2 .left)) (c .before .before .before .before .before .before .before .before .before .if3 .taken) (c .before .before .add-place2 .ensures) (c .before .before .before .before .before .before .report3 .ensures)
+    start-behind (sought (c .before .before .before .before .before .before .before .before .before .before .before .before .before)) (c .before .before .before .before .before .before .before .before .before .before .before .before .if1 .left) (more (c .before .before .before .before .before .before .before .before .before .before)) (c .before .before .before .before .before .before .before .before .before .if3 .taken) (c .before .before .add-place2 .ensures) (c .before .before .before .before .before .before .report3 .ensures)
 
 same-length-7 : tie.Need-same-length-7
 same-length-7 c = search needs
 
 returns-4 : tie.Need-returns-4
-returns-4 c =
-    let k = c .before .before .before .before in
-    let s = k .before .before .before .before .before .before .before in
-    let b = begun (s .args .cell .now) (s .args .out .now) (s .args .new .now) (s .args .request) (s .pre) (λ i. k .before .before .before .before .before .before .slice-known .given i .fits) (omega arith) (k .seek .ensures) in
-    start-nowhere b (c .before .before .before .if1 .left) (eq-eqb _ _ (c .before .if2 .left)) (c .if3 .left)
+returns-4 c = start-nowhere (sought (c .before .before .before .before)) (c .before .before .before .if1 .left) (more (c .before)) (c .if3 .left)
 
 pub start-in-cell-spec : {M : Type 1} → statement M
 start-in-cell-spec =
     tie.close
     (tie.spec
-    cast-seek
-    mul-seek
-    cast-seek-2
-    add-seek
+    text-requires
     seek-requires
     report-requires
     same-length
     same-length-2
     returns
+    concurrent-requires
     report-requires-2
     free-all-requires
     add-place-requires

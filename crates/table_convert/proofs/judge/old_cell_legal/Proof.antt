@@ -2,7 +2,7 @@
 -- It is if its head is legal, its periods are short and its places, widened, are legal: `legal-wide`.
 use mathlib.Core.Path.{sym}
 use borrow.Author.Needs.{needs}
-use Rattle.table_convert.proofs.StoreLaws.{head-long}
+use Rattle.table_convert.proofs.CellStoreLaws.{head-long}
 use Rattle.table_convert.proofs.WideCellLaws.{legal-wide}
 use Rattle.table_convert.proofs.judge.old_cell_legal.Statement.{statement}
 use Rattle.table_convert.proofs.judge.old_cell_legal.Tie as tie
@@ -27,9 +27,10 @@ same-length c = search needs
 
 returns : tie.Need-returns
 returns c =
-    let start = c .before .before .before .before .before .before .before .before .before .before .before in
-    rw (c .before .before .before .head-legal .ensures, c .before .before .periods-short .ensures, c .places-legal .ensures, c .before .before .before .before .before .before .before .widen-places .ensures)
-    (legal-wide (start .args .cell .now) (λ i. c .before .before .before .before .before .before .before .before .before .shared-slice-known .given i .fits) (start .pre .1))
+    let wide = c .before .before .before .before .before .before .before in
+    let start = wide .before .before .before .before in
+    rw (c .before .before .before .head-legal .ensures, c .before .before .periods-short .ensures, c .places-legal .ensures, wide .widen-places .ensures)
+    (legal-wide (start .args .cell .now) (λ i. wide .before .before .shared-slice-known .given i .fits) (start .pre .1))
 
 pub old-cell-legal-spec : {M : Type 1} → statement M
 old-cell-legal-spec =

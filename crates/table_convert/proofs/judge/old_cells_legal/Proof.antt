@@ -2,18 +2,21 @@
 -- The invariant has `RunsLeft`, of the cells still to come and of the least NR CGI that may follow, and the room to widen places in.
 use mathlib.Core.Path.{_≡_, refl, sym, _∙_}
 use mathlib.Core.List.{List}
-use Prim.Native.Nat.{ℕ, _*_, _<_}
+use Prim.Native.Nat.{ℕ, _*_}
 use native.Mathlib.Omega.{arith}
 use borrow.Author.Needs.{needs}
-use lib.ListN.{length}
-use Rattle.rules.specs.Layout.{version1, current, placeSize, placesPerCell, cellSize, cellEnd}
+use lib.ListN.{length, drop}
+use Rattle.rules.specs.Layout.{version1, current, placeSize, placesPerCell, cellSize}
 use Rattle.rules.specs.Table.{legalCell}
+use Rattle.rules.specs.Identity.{identityNumber}
+use Rattle.rules.specs.declared.CellIdentity.{CellIdentity}
 use Rattle.table_judge.proofs.OrderLaws.{RunsLeft, runs-start, runs-below, runs-wrong, runs-on, runs-small, runs-end, cell-small}
+use Rattle.table_convert.proofs.WideLaws.{same-identity}
 use Rattle.table_convert.proofs.judge.old_cells_legal.Statement.{statement}
 use Rattle.table_convert.proofs.judge.old_cells_legal.Tie as tie
 
-record Going (cells : List ℕ) (count at left least : ℕ) (wide : List ℕ) : Type 0 where
-  runs : RunsLeft (legalCell version1) (cellSize version1) count cells at left least
+record Going (cells : List ℕ) (count at left : ℕ) (least : CellIdentity) (wide : List ℕ) : Type 0 where
+  runs : RunsLeft version1 (legalCell version1) (cellSize version1) count cells at left (identityNumber least)
   room : length wide ≡ placeSize current * placesPerCell
 
 abbrev Inv-loop : tie.InvT-loop
@@ -22,20 +25,28 @@ Inv-loop cells count at₀ left₀ least₀ wide₀ at left least wide = Going c
 abbrev μ-loop : tie.MeasureT-loop
 μ-loop cells count at₀ left₀ least₀ wide₀ at left least wide = left
 
+-- the cells still to come
+abbrev ahead : tie.At-loop Inv-loop μ-loop → List ℕ
+ahead c = drop (c .loop .at) (c .before .before .args .cells .now)
+
 loop-holds : tie.Need-loop-holds Inv-loop μ-loop
-loop-holds c = record { runs = runs-start (legalCell version1) (cellSize version1) _ _ (c .before .pre); room = refl }
+loop-holds c = record { runs = runs-start version1 (legalCell version1) (cellSize version1) _ _ (c .before .pre); room = refl }
 
 add-end : tie.Need-add-end Inv-loop μ-loop
 add-end c = search needs
 
-get64-requires : tie.Need-get64-requires Inv-loop μ-loop
-get64-requires c κs = search needs
+identity-at-requires : tie.Need-identity-at-requires Inv-loop μ-loop
+identity-at-requires c κs = search needs
+
+below-requires : tie.Need-below-requires Inv-loop μ-loop
+below-requires c κs = search needs
 
 returns : tie.Need-returns Inv-loop μ-loop
 returns c =
     let read = c .before .before in
     let loop = read .before .before in
-    sym (runs-below (loop .loop .inv .runs) (read .before .loop-test .taken) (omega arith) _ (read .get64 .ensures) (c .if1 .taken))
+    sym (runs-below version1 (loop .loop .inv .runs) (read .before .loop-test .taken) (omega arith)
+    _ (read .identity-at .ensures ∙ same-identity (ahead loop)) _ (c .before .below .ensures) (c .if1 .taken))
 
 slice-aggregate-old-cell-legal : tie.Need-slice-aggregate-old-cell-legal Inv-loop μ-loop
 slice-aggregate-old-cell-legal c = sym (c .before .before .before .before .before .loop .inv .room)
@@ -54,16 +65,19 @@ old-cell-legal-requires c κs = (c .before .before .before .before .before .befo
 
 returns-2 : tie.Need-returns-2 Inv-loop μ-loop
 returns-2 c =
-    let read = c .before .before .before .before .before .before .before in
+    let order = c .before .before .before .before .before in
+    let read = order .before .before in
     let loop = read .before .before in
-    sym (runs-wrong (loop .loop .inv .runs) (read .before .loop-test .taken) (omega arith) _ (read .get64 .ensures) (c .before .before .before .before .before .if1 .left) _ (c .before .before .old-cell-legal .ensures) (c .if2 .taken))
+    sym (runs-wrong version1 (loop .loop .inv .runs) (read .before .loop-test .taken) (omega arith)
+    _ (read .identity-at .ensures ∙ same-identity (ahead loop)) _ (order .before .below .ensures) (order .if1 .left) _ (c .before .before .old-cell-legal .ensures) (c .if2 .taken))
 
-add-least : tie.Need-add-least Inv-loop μ-loop
-add-least c =
-    let read = c .before .before .before .before .before .before .before .before in
+next-requires : tie.Need-next-requires Inv-loop μ-loop
+next-requires c κs =
+    let order = c .before .before .before .before .before in
+    let read = order .before .before in
     let loop = read .before .before in
-    let small : read .get64 .result < cellEnd = runs-small (loop .loop .inv .runs) (read .before .loop-test .taken) (omega arith) _ (read .get64 .ensures) (c .before .before .before .before .before .before .if1 .left) _ (c .before .before .before .old-cell-legal .ensures) (cell-small version1) (c .before .if2 .left) in
-    omega arith
+    runs-small version1 (loop .loop .inv .runs) (read .before .loop-test .taken) (omega arith)
+    _ (read .identity-at .ensures ∙ same-identity (ahead loop)) _ (order .before .below .ensures) (order .if1 .left) _ (c .before .before .old-cell-legal .ensures) (cell-small version1) (c .if2 .left)
 
 sub-left : tie.Need-sub-left Inv-loop μ-loop
 sub-left c = search needs
@@ -73,15 +87,20 @@ loop-less c = search needs
 
 loop-again : tie.Need-loop-again Inv-loop μ-loop
 loop-again c =
-    let read = c .before .before .before .before .before .before .before .before in
+    let judged = c .before .before .before in
+    let order = judged .before .before .before in
+    let read = order .before .before in
     let loop = read .before .before in
     record {
-      runs = runs-on (loop .loop .inv .runs) (read .before .loop-test .taken) (omega arith) _ (read .get64 .ensures) (c .before .before .before .before .before .before .if1 .left) _ (c .before .before .before .old-cell-legal .ensures) (c .before .if2 .left);
-      room = c .before .before .before .old-cell-legal .kept .0 ∙ loop .loop .inv .room;
+      runs =
+          runs-on version1 (loop .loop .inv .runs) (read .before .loop-test .taken) (omega arith)
+          _ (read .identity-at .ensures ∙ same-identity (ahead loop)) _ (order .before .below .ensures) (order .if1 .left)
+          _ (judged .old-cell-legal .ensures) (c .before .if2 .left) _ (c .next .ensures);
+      room = judged .old-cell-legal .kept .0 ∙ loop .loop .inv .room;
     }
 
 returns-3 : tie.Need-returns-3 Inv-loop μ-loop
-returns-3 c = sym (runs-end (c .before .loop .inv .runs) (c .loop-test .left))
+returns-3 c = sym (runs-end version1 (c .before .loop .inv .runs) (c .loop-test .left))
 
 pub old-cells-legal-spec : {M : Type 1} → statement M
 old-cells-legal-spec =
@@ -91,7 +110,8 @@ old-cells-legal-spec =
     μ-loop
     loop-holds
     add-end
-    get64-requires
+    identity-at-requires
+    below-requires
     returns
     slice-aggregate-old-cell-legal
     sub-old-cell-legal
@@ -99,7 +119,7 @@ old-cells-legal-spec =
     part-old-cell-legal-end
     old-cell-legal-requires
     returns-2
-    add-least
+    next-requires
     sub-left
     loop-less
     loop-again

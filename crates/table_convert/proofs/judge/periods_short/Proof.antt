@@ -1,7 +1,7 @@
 -- `periods_short` says whether no place has a period above version 1's limit.
 -- Each read is the period of one of the four: `periods`.
 use borrow.Author.Needs.{needs}
-use Rattle.table_convert.proofs.StoreLaws.{periods}
+use Rattle.table_convert.proofs.CellStoreLaws.{periods}
 use Rattle.table_convert.proofs.judge.periods_short.Statement.{statement}
 use Rattle.table_convert.proofs.judge.periods_short.Tie as tie
 

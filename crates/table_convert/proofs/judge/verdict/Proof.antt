@@ -1,8 +1,10 @@
--- `verdict` says of any bytes what `tableVerdict` of version 1 says.
--- Each way out is the case of the verdict that its tests lead to; a legal header gives the length that reading the cells asks.
+-- `verdict` says of any bytes what `olderVerdict` says.
+-- Each way out is the case of the verdict that its tests lead to; a legal header gives the length that reading the cells asks. Version 1 is the only older one: `older-verdict`.
+use mathlib.Core.Path.{sym, _∙_}
 use native.Mathlib.Omega.{arith}
 use borrow.Author.Needs.{needs}
 use Rattle.rules.specs.Layout.{version1}
+use Rattle.rules.proofs.OlderLaws.{older-verdict}
 use Rattle.table_judge.proofs.JudgeLaws.{unmarked, header-wrong, header-long, table-size, cells-wrong, table-right}
 use Rattle.table_convert.proofs.judge.verdict.Statement.{statement}
 use Rattle.table_convert.proofs.judge.verdict.Tie as tie
@@ -11,7 +13,7 @@ marked-requires : tie.Need-marked-requires
 marked-requires c κs = search needs
 
 returns : tie.Need-returns
-returns c = unmarked version1 _ _ (c .before .marked .ensures) (c .if1 .taken)
+returns c = unmarked version1 _ _ (c .before .marked .ensures) (c .if1 .taken) ∙ sym (older-verdict _)
 
 header-legal-requires : tie.Need-header-legal-requires
 header-legal-requires c κs = search needs
@@ -19,7 +21,7 @@ header-legal-requires c κs = search needs
 returns-2 : tie.Need-returns-2
 returns-2 c =
     let mark = c .before .before .before in
-    header-wrong version1 _ _ (mark .marked .ensures) (c .before .before .if1 .left) _ (c .before .header-legal .ensures) (c .if2 .taken)
+    header-wrong version1 _ _ (mark .marked .ensures) (c .before .before .if1 .left) _ (c .before .header-legal .ensures) (c .if2 .taken) ∙ sym (older-verdict _)
 
 get16-requires : tie.Need-get16-requires
 get16-requires c κs = let long = header-long version1 _ _ (c .before .header-legal .ensures) (c .if2 .left) in omega arith
@@ -47,14 +49,16 @@ returns-3 c =
     let count = c .before .before .before in
     let header = count .before .before in
     let mark = header .before .before in
-    cells-wrong version1 _ _ (mark .marked .ensures) (header .before .if1 .left) _ (header .header-legal .ensures) (count .before .if2 .left) _ (count .get16 .ensures) _ (c .before .old-cells-legal .ensures) (c .if3 .taken)
+    cells-wrong version1 _ _ (mark .marked .ensures) (header .before .if1 .left) _ (header .header-legal .ensures) (count .before .if2 .left)
+    _ (count .get16 .ensures) _ (c .before .old-cells-legal .ensures) (c .if3 .taken) ∙ sym (older-verdict _)
 
 returns-4 : tie.Need-returns-4
 returns-4 c =
     let count = c .before .before .before in
     let header = count .before .before in
     let mark = header .before .before in
-    table-right version1 _ _ (mark .marked .ensures) (header .before .if1 .left) _ (header .header-legal .ensures) (count .before .if2 .left) _ (count .get16 .ensures) _ (c .before .old-cells-legal .ensures) (c .if3 .left)
+    table-right version1 _ _ (mark .marked .ensures) (header .before .if1 .left) _ (header .header-legal .ensures) (count .before .if2 .left)
+    _ (count .get16 .ensures) _ (c .before .old-cells-legal .ensures) (c .if3 .left) ∙ sym (older-verdict _)
 
 pub verdict-spec : {M : Type 1} → statement M
 verdict-spec =

@@ -3,7 +3,7 @@
 use mathlib.Core.Path.{sym}
 use native.Mathlib.Omega.{arith}
 use borrow.Author.Needs.{needs}
-use Rattle.table_convert.proofs.StoreLaws.{head-long, cell-widened}
+use Rattle.table_convert.proofs.CellStoreLaws.{head-long, cell-widened}
 use Rattle.table_convert.proofs.wide.widen.Statement.{statement}
 use Rattle.table_convert.proofs.wide.widen.Tie as tie
 
@@ -30,8 +30,9 @@ same-length c = search needs
 
 returns : tie.Need-returns
 returns c =
-    let start = c .before .before .before .before .before .before .before .before .before .before .before in
-    cell-widened (start .args .wide .now) (start .args .cell .now) (start .pre .0) (start .pre .1) (c .before .before .before .before .before .before .put-head .ensures) (c .before .before .widen-places .ensures)
+    let head = c .before .before .before .before .before .before in
+    let start = head .before .before .before .before .before in
+    cell-widened (start .args .wide .now) (start .args .cell .now) (start .pre .0) (start .pre .1) (head .put-head .ensures) (c .before .before .widen-places .ensures)
 
 pub widen-spec : {M : Type 1} → statement M
 widen-spec =

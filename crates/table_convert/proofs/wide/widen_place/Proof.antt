@@ -55,9 +55,14 @@ same-length c = search needs
 
 returns : tie.Need-returns
 returns c =
-    let start = c .before .before .before .before .before .before .before .before .before .before .before .before .before .before .before .before .before .before .before .before .before .before in
-    place-stored (start .args .wide .now) (start .args .cell .now) (start .args .to) (start .args .from) (λ i. c .before .before .before .before .before .before .before .before .before .before .before .before .before .before .before .before .before .before .before .before .shared-slice-known .given i .fits)
-    (c .before .before .before .before .before .before .before .before .before .before .before .before .before .before .before .before .before .before .get64 .ensures) (c .before .before .before .before .before .before .before .before .before .before .before .before .before .get642 .ensures) (c .before .before .before .before .before .before .before .before .get16 .ensures) (c .before .before .before .get32 .ensures) (c .before .before .before .before .before .before .before .before .before .before .before .before .before .before .before .before .before .put64 .ensures) (c .before .before .before .before .before .before .before .before .before .before .before .before .put642 .ensures) (c .before .before .before .before .before .before .before .put32 .ensures) (c .before .before .put322 .ensures)
+    let last = c .before .before in
+    let wait = last .before .before .before .before .before in
+    let counts = wait .before .before .before .before .before in
+    let text = counts .before .before .before .before .before in
+    let start = text .before .before .before .before .before in
+    place-stored (start .args .wide .now) (start .args .cell .now) (start .args .to) (start .args .from) (λ i. text .before .before .before .shared-slice-known .given i .fits)
+    (text .before .get64 .ensures) (counts .before .get642 .ensures) (wait .before .get16 .ensures) (last .before .get32 .ensures)
+    (text .put64 .ensures) (counts .put642 .ensures) (wait .put32 .ensures) (last .put322 .ensures)
 
 pub widen-place-spec : {M : Type 1} → statement M
 widen-place-spec =

@@ -1,7 +1,7 @@
 -- `widen_places` leaves the widened places of a cell.
 -- Four of them, one behind the other, are all the bytes lent: `places-widened`.
 use borrow.Author.Needs.{needs}
-use Rattle.table_convert.proofs.StoreLaws.{places-widened}
+use Rattle.table_convert.proofs.CellStoreLaws.{places-widened}
 use Rattle.table_convert.proofs.wide.widen_places.Statement.{statement}
 use Rattle.table_convert.proofs.wide.widen_places.Tie as tie
 
@@ -43,8 +43,13 @@ same-length c = search needs
 
 returns : tie.Need-returns
 returns c =
-    let start = c .before .before .before .before .before .before .before .before .before .before .before .before .before .before .before .before .before .before in
-    places-widened (start .args .wide .now) (start .args .cell .now) (start .pre .0) (start .pre .1) (c .before .before .before .before .before .before .before .before .before .before .before .before .before .before .widen-place .ensures) (c .before .before .before .before .before .before .before .before .before .before .widen-place2 .ensures) (c .before .before .before .before .before .before .widen-place3 .ensures) (c .before .before .widen-place4 .ensures)
+    let fourth = c .before .before in
+    let third = fourth .before .before .before .before in
+    let second = third .before .before .before .before in
+    let first = second .before .before .before .before in
+    let start = first .before .before .before .before in
+    places-widened (start .args .wide .now) (start .args .cell .now) (start .pre .0) (start .pre .1)
+    (first .widen-place .ensures) (second .widen-place2 .ensures) (third .widen-place3 .ensures) (fourth .widen-place4 .ensures)
 
 pub widen-places-spec : {M : Type 1} → statement M
 widen-places-spec =

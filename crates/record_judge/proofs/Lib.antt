@@ -1,0 +1,3 @@
+pub mod ToldLaws
+mod SmallLaws
+pub mod Once
