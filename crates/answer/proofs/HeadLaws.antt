@@ -35,7 +35,8 @@ module _ (kind identifier serial rows : ℕ) (hk : kind < 256) (hi : identifier 
         toBe-join 2 2 serial rows hs hr,
       )
 
-  pub head-stored : (a : List ℕ) → sets (sets a 0 (toBe 8 ((marked * 256 + kind) * 65536 + identifier))) 8 (toBe 4 (serial * 65536 + rows)) ≡ sets a 0 (answerHead current kind identifier serial rows)
+  pub head-stored : (a : List ℕ)
+      → sets (sets a 0 (toBe 8 ((marked * 256 + kind) * 65536 + identifier))) 8 (toBe 4 (serial * 65536 + rows)) ≡ sets a 0 (answerHead current kind identifier serial rows)
   head-stored a =
       sets-run (toBe 8 ((marked * 256 + kind) * 65536 + identifier)) (toBe 4 (serial * 65536 + rows)) a 0 8 (rw length-toBe refl)
       ∙ ap (sets a 0) (sym head-in-two)

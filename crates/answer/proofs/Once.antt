@@ -1,8 +1,6 @@
 -- One outcome only: what a public function of this crate returns and leaves, its contract settles.
 -- Each promise is an equation between that and a definition; of a row each field is settled.
 use mathlib.Core.Path.{ap}
-use mathlib.Core.List.{List}
-use Prim.Native.Nat.{ℕ}
 use denote.Ref.{now}
 use Rattle.octets.specs.Settled.{Settles, SettlesResult}
 use Rattle.octets.proofs.Once.{one-outcome}

@@ -1,15 +1,15 @@
 -- A row's bytes in three stores, and its numbers in three reads.
 -- Stores one behind the other are one run; each number is the field that stands where it is read.
 use mathlib.Core.Path.{_≡_, refl, _∙_}
-use mathlib.Core.List.{List, [], _++_, append-assoc, append-nil}
-use Prim.Native.Nat.{ℕ, _+_, _*_, _≤_}
+use mathlib.Core.List.{List, _++_, append-assoc, append-nil}
+use Prim.Native.Nat.{ℕ, _+_, _≤_}
 use native.Mathlib.Nat.{add-zero}
 use native.Mathlib.Omega.{arith}
 use lib.ListN.{length, getD, length-append}
 use lib.Seq.{sets}
 use Rattle.octets.specs.Runs.{gets}
 use Rattle.octets.specs.Numbers.{be, toBe}
-use Rattle.octets.specs.Fields.{size, offset, bytesOf, fieldOf}
+use Rattle.octets.specs.Fields.{offset, bytesOf, fieldOf}
 use Rattle.octets.proofs.RunsLaws.{sets-run, gets-gets, length-gets}
 use Rattle.octets.proofs.NumbersLaws.{length-toBe}
 use Rattle.octets.proofs.FieldsLaws.{field-at}
@@ -17,7 +17,8 @@ use Rattle.rules.specs.Layout.{current, rowFields, rowSize}
 use Rattle.rules.specs.Reply.{Row}
 use Rattle.rules.specs.Answer.{rowOf, rowBytes}
 
-pub row-stored : (l : List ℕ) (at : ℕ) (w : Row) (a b d : List ℕ) → a ≡ sets l at (toBe 8 (w .identity)) → b ≡ sets a (at + 8) (toBe 2 (w .count)) → d ≡ sets b (at + 10) (toBe 4 (w .content))
+pub row-stored : (l : List ℕ) (at : ℕ) (w : Row) (a b d : List ℕ)
+    → a ≡ sets l at (toBe 8 (w .identity)) → b ≡ sets a (at + 8) (toBe 2 (w .count)) → d ≡ sets b (at + 10) (toBe 4 (w .content))
     → d ≡ sets l at (rowBytes current w)
 unfolding rowBytes bytesOf
 row-stored l at w a b d ea eb ed =

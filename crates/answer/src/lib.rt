@@ -24,6 +24,7 @@ ghost use Prim.Native.Nat.{_+_, _*_, _≤_};
 ghost use lib.ListN.{length};
 ghost use lib.Seq.{sets};
 ghost use Rattle.rules.specs.Layout.{current, answerSize, rowSize, mostCells, placesPerCell};
+ghost use Rattle.rules.specs.Identity.{identityNumber};
 ghost use Rattle.rules.specs.Record.{kindOf, unknownKind};
 ghost use Rattle.rules.specs.Answer.{answerOf, answerHead, rowBytes, rowCount, roomFor};
 ghost use Rattle.answer.specs.Rows.{rowAt, rowSaid};
@@ -79,7 +80,7 @@ pub fn put_head(answer: &mut [u8], kind: u8, identifier: u16, serial: u16, rows:
 // A row at an index of the bytes behind the head.
 pub fn put_row(out: &mut [u8], at: usize, identity: CellIdentity, count: Broadcasts, content: u32)
     requires { ⌜ at + rowSize current ≤ length (now out) ⌝ }
-    ensures { λ _. ⌜ now (out .exit) ≡ sets (now (out .entry)) at (rowBytes current (record { identity = identity .0; count = count .0; content = content })) ⌝ }
+    ensures { λ _. ⌜ now (out .exit) ≡ sets (now (out .entry)) at (rowBytes current (record { identity = identityNumber identity; count = count .0; content = content })) ⌝ }
 {
     put64(out, at, identity.0);
     put16(out, at + COUNT_IN_ROW_AT, count.0);

@@ -1,2 +1,6 @@
-pub mod ChangesLaws
+pub mod WordsLaws
+pub mod CountsLaws
+pub mod AddedLaws
+pub mod Moving
+pub mod Freeing
 pub mod Once

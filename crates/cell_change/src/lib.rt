@@ -1,10 +1,11 @@
 // Changes to a cell's places, in place: no byte is written that stays as it is, but for the places that move. And the bytes of a place.
-use cell_read::Counts;
+use octets::BYTES_64;
 use octets::get64;
 use octets::put8;
 use octets::put16;
 use octets::put32;
 use octets::put64;
+use rules::Broadcasts;
 use rules::Place;
 use rules::Seconds;
 use rules::layout::CONTENT_AT;
@@ -20,17 +21,15 @@ use rules::layout::SIB_AT;
 use rules::layout::WAIT_AT;
 ghost use mathlib.Core.Path.{_≡_};
 ghost use mathlib.Core.List.{[], _∷_, _++_};
-ghost use Prim.Native.Nat.{_+_, _*_, _≤_, _<_};
-ghost use lib.ListN.{length, set};
+ghost use Prim.Native.Nat.{_+_, _≤_, _<_};
+ghost use lib.ListN.{length};
 ghost use lib.Seq.{sets};
 ghost use Rattle.octets.specs.Runs.{gets};
-ghost use Rattle.rules.specs.Layout.{current, headSize, placeSize, placesPerCell, cellSize};
+ghost use Rattle.rules.specs.Layout.{current, placeSize, placesPerCell, cellSize};
 ghost use Rattle.rules.specs.Table.{placeOf, placeBytes, freeBytes};
 ghost use Rattle.rules.specs.InCell.{withCounts};
-ghost use Rattle.cell_read.specs.Places.{livePlaces, withPlaces, placeAt, LiveAt, FreeAt, OnePlace, without};
+ghost use Rattle.cell_read.specs.Places.{livePlaces, withPlaces, withPlace, placeFrom, placeAt, LiveAt, FreeAt, OnePlace, without};
 ghost use Rattle.cell_change.specs.Words.{wordBytes};
-
-const WORD: usize = 8;
 
 const LAST: usize = PLACES - 1;
 
@@ -50,8 +49,8 @@ fn load(from: &[u8], at: usize) -> Words
 {
     Words {
         first: get64(from, at),
-        second: get64(from, at + WORD),
-        third: get64(from, at + 2 * WORD),
+        second: get64(from, at + BYTES_64),
+        third: get64(from, at + 2 * BYTES_64),
     }
 }
 
@@ -60,13 +59,19 @@ fn store(to: &mut [u8], at: usize, words: Words)
     ensures { λ _. ⌜ now (to .exit) ≡ sets (now (to .entry)) at (wordBytes words) ⌝ }
 {
     put64(to, at, words.first);
-    put64(to, at + WORD, words.second);
-    put64(to, at + 2 * WORD, words.third);
+    put64(to, at + BYTES_64, words.second);
+    put64(to, at + 2 * BYTES_64, words.third);
+}
+
+// What a second changes.
+pub struct Counts {
+    pub sent: Broadcasts,
+    pub wait: Seconds,
 }
 
 pub fn set_counts(cell: &mut [u8], k: usize, counts: Counts)
     requires { ⌜ LiveAt (now cell) k ⌝ }
-    ensures { λ _. ⌜ now (cell .exit) ≡ withPlaces (now (cell .entry)) (set (livePlaces (now (cell .entry))) k (withCounts (placeAt (now (cell .entry)) k) (counts .sent) (counts .wait))) ⌝ }
+    ensures { λ _. ⌜ now (cell .exit) ≡ withPlace (now (cell .entry)) k (withCounts (placeAt (now (cell .entry)) k) (counts .sent) (counts .wait)) ⌝ }
 {
     put16(cell, HEAD + PLACE * k + SENT_AT, counts.sent.0);
     put32(cell, HEAD + PLACE * k + WAIT_AT, counts.wait.0);
@@ -74,7 +79,7 @@ pub fn set_counts(cell: &mut [u8], k: usize, counts: Counts)
 
 pub fn set_wait(cell: &mut [u8], k: usize, wait: Seconds)
     requires { ⌜ LiveAt (now cell) k ⌝ }
-    ensures { λ _. ⌜ now (cell .exit) ≡ withPlaces (now (cell .entry)) (set (livePlaces (now (cell .entry))) k (withCounts (placeAt (now (cell .entry)) k) (placeAt (now (cell .entry)) k .sent) wait)) ⌝ }
+    ensures { λ _. ⌜ now (cell .exit) ≡ withPlace (now (cell .entry)) k (withCounts (placeAt (now (cell .entry)) k) (placeAt (now (cell .entry)) k .sent) wait) ⌝ }
 {
     put32(cell, HEAD + PLACE * k + WAIT_AT, wait.0);
 }
@@ -97,7 +102,7 @@ pub fn drop_place(cell: &mut [u8], k: usize)
 // The bytes of a free place.
 fn clear(cell: &mut [u8], k: usize)
     requires { ⌜ (length (now cell) ≡ cellSize current) × (k < placesPerCell) ⌝ }
-    ensures { λ _. ⌜ now (cell .exit) ≡ sets (now (cell .entry)) ((headSize current) + placeSize current * k) (freeBytes current) ⌝ }
+    ensures { λ _. ⌜ now (cell .exit) ≡ sets (now (cell .entry)) (placeFrom k) (freeBytes current) ⌝ }
 {
     let none = Words {
         first: 0,

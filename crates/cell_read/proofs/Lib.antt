@@ -1,4 +1,5 @@
 pub mod PlacesLaws
+pub mod PlaceBytesLaws
 pub mod ReadsLaws
 pub mod SeekLaws
 pub mod Once

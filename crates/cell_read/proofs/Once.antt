@@ -4,23 +4,17 @@ use mathlib.Core.Path.{_≡_}
 use Rattle.octets.specs.Settled.{SettlesResult}
 use Rattle.octets.proofs.Once.{one-outcome}
 use Rattle.cell_read.proofs.is_live.Reads as is-live
-use Rattle.cell_read.proofs.text.Reads as text
 use Rattle.cell_read.proofs.content.Reads as content
 use Rattle.cell_read.proofs.sent.Reads as sent
 use Rattle.cell_read.proofs.wait.Reads as wait
-use Rattle.cell_read.proofs.place.Reads as place
 use Rattle.cell_read.proofs.identity.Reads as identity
 use Rattle.cell_read.proofs.tracking.Reads as tracking
 use Rattle.cell_read.proofs.terms_of.Reads as terms-of
-use Rattle.cell_read.proofs.counts_of.Reads as counts-of
 use Rattle.cell_read.proofs.seek.Reads as seek
 use Rattle.cell_read.proofs.areas_of.Reads as areas-of
 
 pub is-live-once : SettlesResult is-live.Learnt
 is-live-once κ args r s e f = one-outcome
-
-pub text-once : SettlesResult text.Learnt
-text-once κ args r s e f = one-outcome
 
 pub content-once : SettlesResult content.Learnt
 content-once κ args r s e f = one-outcome
@@ -31,11 +25,8 @@ sent-once κ args r s e f = one-outcome
 pub wait-once : SettlesResult wait.Learnt
 wait-once κ args r s e f = one-outcome
 
-pub place-once : SettlesResult place.Learnt
-place-once κ args r s e f = one-outcome
-
 pub identity-once : SettlesResult identity.Learnt
-identity-once κ args r s e f = one-outcome
+identity-once κ args r s e f p q i = record { 0 = one-outcome p q i }
 
 pub tracking-once : SettlesResult tracking.Learnt
 tracking-once κ args r s e f = one-outcome
@@ -44,9 +35,6 @@ tracking-once κ args r s e f = one-outcome
 
 pub terms-of-once : SettlesResult terms-of.Learnt
 terms-of-once κ args r s e f p q = rw (p .0, p .1, q .0, q .1)
-
-pub counts-of-once : SettlesResult counts-of.Learnt
-counts-of-once κ args r s e f p q = rw (p .0, p .1, q .0, q .1)
 
 pub seek-once : SettlesResult seek.Learnt
 seek-once κ args r s e f p q = rw (p .1, p .0, q .1, q .0)

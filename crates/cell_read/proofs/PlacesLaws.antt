@@ -1,32 +1,29 @@
--- A cell with other places: what it says, that it is formed, its head and its length; and that the bytes of its place k are those of live place k.
--- By the codec's laws for places: behind the head stand the runs of the live places and then free ones.
+-- A cell with other places: what it says, that it is formed, its head and its length; and its live places: how many, that they fit.
+-- By the codec's laws for places.
 use mathlib.Core.Path.{_≡_, refl, sym, ap, _∙_}
 use mathlib.Core.Bool.{Bool, true, false, cond}
-use mathlib.Core.List.{List, [], _∷_, _++_, map}
-use Prim.Native.Nat.{ℕ, suc, _+_, _*_, _^_, _<_, _≤_}
+use mathlib.Core.List.{List, [], _∷_, _++_}
+use Prim.Native.Nat.{ℕ, suc, _*_, _^_, _<_, _≤_}
 use native.Mathlib.Omega.{arith}
-use lib.ListN.{length, getD, take, drop, set, length-append, length-drop, length-map, take-append-drop}
+use lib.ListN.{length, take, drop, set, length-append, length-drop, take-append-drop}
 use lib.Seq.{length-take-le, take-at, drop-at}
-use Rattle.octets.specs.Runs.{gets, Bytes}
+use Rattle.octets.specs.Runs.{Bytes}
 use Rattle.octets.specs.Fields.{size, numbers, fieldOf}
 use Rattle.octets.proofs.RunsLaws.{bytes-take}
 use Rattle.octets.proofs.PiecesLaws.{length-pieces, pieces-flat}
-use Rattle.octets.proofs.FieldsLaws.{fit-numbers, length-padded}
+use Rattle.octets.proofs.FieldsLaws.{fit-numbers}
 use Rattle.octets.proofs.PartsLaws.{fit-set}
 use Rattle.rules.specs.Layout.{current, placeFields, sentInPlace, waitInPlace, headSize, placeSize, placesPerCell, cellSize}
-use Rattle.rules.specs.Table.{headOf, legalHead, placeOf, placeNumbers, placeBytes, freeBytes, isFree, liveFirst, placesOf, placeRuns, placesBytes, cellBytes, legalCell}
+use Rattle.rules.specs.Table.{headOf, legalHead, placeOf, placeNumbers, isFree, liveFirst, placesOf, placeRuns, placesBytes, cellBytes, legalCell}
 use Rattle.rules.specs.InCell.{withCounts}
 use Rattle.rules.specs.declared.Seconds.{Seconds}
 use Rattle.rules.specs.declared.Broadcasts.{Broadcasts}
 use Rattle.rules.specs.declared.Place.{Place}
-use Rattle.rules.proofs.AllLaws.{All, none, more, all-of, all-map, all-padded, all-at}
-use Rattle.rules.proofs.JoinedLaws.{joined, Wide, joined-gets}
-use Rattle.rules.proofs.MapLaws.{getD-map}
-use Rattle.rules.proofs.PaddedLaws.{getD-padded, getD-spare}
+use Rattle.rules.proofs.AllLaws.{All, none, more, all-at}
 use Rattle.rules.proofs.FitLaws.{Fit-fits, fits-Fit}
 use Rattle.rules.proofs.HeadCodec.{head-back}
-use Rattle.rules.proofs.PlaceCodec.{FitPlace, length-placeBytes}
-use Rattle.rules.proofs.PlacesCodec.{PlaceRun, runsOf, length-placesBytes, runs-of-places, places-padded, places-back, legal-places}
+use Rattle.rules.proofs.PlaceCodec.{FitPlace}
+use Rattle.rules.proofs.PlacesCodec.{PlaceRun, length-placesBytes, runs-of-places, places-padded, places-back, legal-places}
 use Rattle.rules.proofs.CellCodec.{legal-cell, cell-runs}
 use Rattle.cell_read.specs.Places.{livePlaces, withPlaces, Formed, noPlace, placeAt, LiveAt}
 
@@ -36,7 +33,7 @@ pub head-long : (c : List ℕ) → length c ≡ cellSize current → length (tak
 head-long c long = length-take-le (headSize current) c (omega arith)
 
 module _ (c : List ℕ) (long : length c ≡ cellSize current) (ps : List Place) where
-  pub length-withPlaces : length (withPlaces c ps) ≡ cellSize current
+  length-withPlaces : length (withPlaces c ps) ≡ cellSize current
   unfolding withPlaces
   length-withPlaces = rw (length-append, head-long c long, length-placesBytes current ps)
 
@@ -44,7 +41,7 @@ module _ (c : List ℕ) (long : length c ≡ cellSize current) (ps : List Place)
   unfolding withPlaces
   head-withPlaces = take-at (take (headSize current) c) (placesBytes current ps) (headSize current) (head-long c long)
 
-  pub behind-withPlaces : drop (headSize current) (withPlaces c ps) ≡ placesBytes current ps
+  behind-withPlaces : drop (headSize current) (withPlaces c ps) ≡ placesBytes current ps
   unfolding withPlaces
   behind-withPlaces = drop-at (take (headSize current) c) (placesBytes current ps) (headSize current) (head-long c long)
 
@@ -109,7 +106,7 @@ pub live-fit : (c : List ℕ) → Bytes c → length c ≡ cellSize current → 
 live-fit c bytes long = fit-places (cell-runs current c bytes long)
 
 -- live places first are all that a cell needs to be formed
-pub formed-first : (c : List ℕ) → Bytes c → length c ≡ cellSize current → liveFirst current (placeRuns current c) ≡ true → Formed c
+formed-first : (c : List ℕ) → Bytes c → length c ≡ cellSize current → liveFirst current (placeRuns current c) ≡ true → Formed c
 unfolding withPlaces
 formed-first c bytes long first =
     let behind : length (drop (headSize current) c) ≡ placeSize current * placesPerCell = rw (length-drop, long) in
@@ -140,42 +137,3 @@ pub fit-counts : (p : Place) → FitPlace current p → (sent : Broadcasts) (wai
 fit-counts p fit sent wait s w =
     Fit-fits (placeFields current) (placeNumbers (withCounts p sent wait))
     (rw (counted p sent wait) (fit-set (fit-set (fits-Fit (placeFields current) (placeNumbers p) fit) sentInPlace (sent .0) s) waitInPlace (wait .0) w))
-
--- ---- the bytes of one place
-
-pub wide-runs : (ps : List Place) → Wide (placeSize current) (runsOf current ps)
-wide-runs ps =
-    all-padded placesPerCell (freeBytes current) refl (all-map (λ b. length b ≡ placeSize current) (placeBytes current) (all-of (length-placeBytes current) ps))
-
--- behind the head stand the runs
-pub withPlaces-runs : (c : List ℕ) (ps : List Place) → withPlaces c ps ≡ take (headSize current) c ++ joined (runsOf current ps)
-unfolding withPlaces placesBytes
-withPlaces-runs c ps = refl
-
-pub live-run : (c : List ℕ) (k : ℕ) → LiveAt c k → getD (runsOf current (livePlaces c)) k [] ≡ placeBytes current (placeAt c k)
-unfolding placeAt
-live-run c k at =
-    let n : length (map (placeBytes current) (livePlaces c)) ≡ length (livePlaces c) = length-map (livePlaces c) (placeBytes current) in
-    let live = at .live in
-    getD-padded (freeBytes current) placesPerCell k (map (placeBytes current) (livePlaces c)) [] (omega arith) (at .few)
-    ∙ getD-map (placeBytes current) (livePlaces c) k noPlace [] (at .live)
-
-pub free-run : (c : List ℕ) (k : ℕ) → length (livePlaces c) ≤ k → k < placesPerCell → getD (runsOf current (livePlaces c)) k [] ≡ freeBytes current
-free-run c k h room =
-    let n : length (map (placeBytes current) (livePlaces c)) ≡ length (livePlaces c) = length-map (livePlaces c) (placeBytes current) in
-    getD-spare (freeBytes current) placesPerCell k (map (placeBytes current) (livePlaces c)) [] (omega arith) room
-
--- read in place k, from its byte j on
-run-gets : (c : List ℕ) → Formed c → (k j m : ℕ) → k < placesPerCell → j + m ≤ placeSize current
-    → gets c ((headSize current) + placeSize current * k + j) m ≡ gets (getD (runsOf current (livePlaces c)) k []) j m
-run-gets c formed k j m room fits-in =
-    let n : length (runsOf current (livePlaces c)) ≡ placesPerCell = length-padded placesPerCell (freeBytes current) (map (placeBytes current) (livePlaces c)) in
-    ap (λ (l : List ℕ). gets l ((headSize current) + placeSize current * k + j) m) (formed .whole ∙ withPlaces-runs c (livePlaces c))
-    ∙ joined-gets (placeSize current) (wide-runs (livePlaces c)) (take (headSize current) c) (headSize current) k j m ((headSize current) + placeSize current * k + j) (head-long c (formed .size)) (omega arith) fits-in refl
-
-pub live-gets : (c : List ℕ) (k : ℕ) → LiveAt c k → (j m : ℕ) → j + m ≤ placeSize current → gets c ((headSize current) + placeSize current * k + j) m ≡ gets (placeBytes current (placeAt c k)) j m
-live-gets c k at j m fits-in = run-gets c (at .formed) k j m (at .few) fits-in ∙ ap (λ (l : List ℕ). gets l j m) (live-run c k at)
-
-pub free-gets : (c : List ℕ) → Formed c → (k : ℕ) → length (livePlaces c) ≤ k → k < placesPerCell → (j m : ℕ) → j + m ≤ placeSize current
-    → gets c ((headSize current) + placeSize current * k + j) m ≡ gets (freeBytes current) j m
-free-gets c formed k h room j m fits-in = run-gets c formed k j m room fits-in ∙ ap (λ (l : List ℕ). gets l j m) (free-run c k h room)

@@ -3,7 +3,7 @@
 use mathlib.Core.Path.{_≡_, refl, sym, ap, _∙_}
 use mathlib.Core.Bool.{not}
 use mathlib.Core.List.{List, [], _∷_}
-use Prim.Native.Nat.{ℕ, _+_, _*_, _/_, _%_, _<_, _≤_}
+use Prim.Native.Nat.{ℕ, _+_, _<_, _≤_}
 use native.Mathlib.Nat.{add-zero}
 use native.Mathlib.Omega.{arith}
 use borrow.Author.Tests.{ltb-true, ltb-false}
@@ -12,99 +12,78 @@ use lib.ListN.{length, getD, take}
 use Rattle.octets.specs.Runs.{gets, Bytes}
 use Rattle.octets.specs.Numbers.{be}
 use Rattle.octets.specs.Fields.{size, offset, numbers, fieldOf}
-use Rattle.octets.proofs.RunsLaws.{length-gets, bytes-gets}
-use Rattle.octets.proofs.NumbersLaws.{be-lt, be-run}
+use Rattle.octets.proofs.NumbersLaws.{be-run}
 use Rattle.octets.proofs.FieldsLaws.{field-at, field-within, numbers-take}
 use Rattle.rules.specs.Layout.{current, headFields, placeFields, headSize, placeSize, placesPerCell, cellSize}
-use Rattle.rules.specs.Table.{areasUsed, headOf, allAreas, placeNumbers, placeBytes}
+use Rattle.rules.specs.Table.{areasUsed, headOf, allAreas, placeNumbers, placeBytes, textOf}
 use Rattle.rules.specs.declared.Place.{Place}
 use Rattle.rules.proofs.FitLaws.{fits-Fit, numbers-written}
 use Rattle.rules.proofs.TestLaws.{by-test}
 use Rattle.rules.proofs.PlaceCodec.{length-placeBytes}
-use Rattle.cell_read.specs.Places.{livePlaces, Formed, placeAt, LiveAt, textOf, areasIn, HeadAreas}
+use Rattle.cell_read.specs.Places.{livePlaces, Formed, placeAt, LiveAt, areasIn, HeadAreas, placeFrom}
 use Rattle.cell_read.specs.declared.Areas.{Areas}
-use Rattle.cell_read.proofs.PlacesLaws.{live-at, fit-at, live-gets, free-gets}
-
--- ---- two numbers of 16 bits, side by side
-
-module _ (l : List ℕ) (i j : ℕ) (bytes : Bytes l) (e : j ≡ i + 2) where
-  low : be (gets l j 2) < 65536
-  low = rw length-gets at (be-lt (gets l j 2) (bytes-gets 2 l j bytes))
-
-  upper-half : be (gets l i 4) / 65536 ≡ be (gets l i 2)
-  upper-half = let h = low in omega (arith, be-run 2 2 l i j e)
-
-  lower-half : be (gets l i 4) % 65536 ≡ be (gets l j 2)
-  lower-half = let h = low in omega (arith, be-run 2 2 l i j e)
+use Rattle.cell_read.proofs.PlacesLaws.{live-at, fit-at}
+use Rattle.cell_read.proofs.PlaceBytesLaws.{live-gets, free-gets}
 
 -- ---- the fields of a live place
 
 module _ (c : List ℕ) (bytes : Bytes c) (k : ℕ) (at : LiveAt c k) where
-  field-read : (f : ℕ) → be (gets c ((headSize current) + placeSize current * k + offset (placeFields current) f) (getD (placeFields current) f 0)) ≡ getD (placeNumbers (placeAt c k)) f 0
+  field-read : (f : ℕ) → be (gets c (placeFrom k + offset (placeFields current) f) (getD (placeFields current) f 0)) ≡ getD (placeNumbers (placeAt c k)) f 0
   unfolding size placeBytes fieldOf
   field-read f =
       let p : Place = placeAt c k in
       let within : offset (placeFields current) f + getD (placeFields current) f 0 ≤ placeSize current = field-within (placeFields current) f in
       let n : length (placeBytes current p) ≡ placeSize current = length-placeBytes current p in
-      let w : numbers (placeFields current) (placeBytes current p) ≡ placeNumbers p = numbers-written (placeFields current) (placeNumbers p) (fits-Fit (placeFields current) (placeNumbers p) (fit-at c bytes k at)) in
+      let fit = fits-Fit (placeFields current) (placeNumbers p) (fit-at c bytes k at) in
+      let w : numbers (placeFields current) (placeBytes current p) ≡ placeNumbers p = numbers-written (placeFields current) (placeNumbers p) fit in
       ap be (live-gets c k at (offset (placeFields current) f) (getD (placeFields current) f 0) within)
       ∙ sym (field-at (placeFields current) f (placeBytes current p) (omega arith))
       ∙ ap (λ (vs : List ℕ). getD vs f 0) w
 
-  identifier-read : be (gets c ((headSize current) + placeSize current * k) 2) ≡ placeAt c k .identifier
+  identifier-read : be (gets c (placeFrom k) 2) ≡ placeAt c k .identifier
   unfolding offset placeNumbers
   identifier-read = rw add-zero at (field-read 0)
 
-  serial-read : be (gets c ((headSize current) + placeSize current * k + 2) 2) ≡ placeAt c k .serial
+  serial-read : be (gets c (placeFrom k + 2) 2) ≡ placeAt c k .serial
   unfolding offset placeNumbers
   serial-read = field-read 1
 
-  pub content-read : be (gets c ((headSize current) + placeSize current * k + 4) 4) ≡ placeAt c k .content
+  pub content-read : be (gets c (placeFrom k + 4) 4) ≡ placeAt c k .content
   unfolding offset placeNumbers
   content-read = field-read 2
 
-  pub period-read : be (gets c ((headSize current) + placeSize current * k + 8) 4) ≡ placeAt c k .period .0
+  pub period-read : be (gets c (placeFrom k + 8) 4) ≡ placeAt c k .period .0
   unfolding offset placeNumbers
   period-read = field-read 3
 
-  pub requested-read : be (gets c ((headSize current) + placeSize current * k + 12) 2) ≡ placeAt c k .requested .0
+  pub requested-read : be (gets c (placeFrom k + 12) 2) ≡ placeAt c k .requested .0
   unfolding offset placeNumbers
   requested-read = field-read 4
 
-  pub sent-read : be (gets c ((headSize current) + placeSize current * k + 14) 2) ≡ placeAt c k .sent .0
+  pub sent-read : be (gets c (placeFrom k + 14) 2) ≡ placeAt c k .sent .0
   unfolding offset placeNumbers
   sent-read = field-read 5
 
-  pub wait-read : be (gets c ((headSize current) + placeSize current * k + 16) 4) ≡ placeAt c k .wait .0
+  pub wait-read : be (gets c (placeFrom k + 16) 4) ≡ placeAt c k .wait .0
   unfolding offset placeNumbers
   wait-read = field-read 6
 
-  pub sib-read : be (gets c ((headSize current) + placeSize current * k + 20) 1) ≡ placeAt c k .sib
-  unfolding offset placeNumbers
-  sib-read = field-read 7
-
-  mark-read : be (gets c ((headSize current) + placeSize current * k + 21) 1) ≡ 1
+  mark-read : be (gets c (placeFrom k + 21) 1) ≡ 1
   unfolding offset placeNumbers
   mark-read = field-read 8
 
-  pub text-read : be (gets c ((headSize current) + placeSize current * k) 4) ≡ textOf (placeAt c k)
+  pub text-read : be (gets c (placeFrom k) 4) ≡ textOf (placeAt c k)
   unfolding textOf
-  text-read = sym (be-run 2 2 c ((headSize current) + placeSize current * k) ((headSize current) + placeSize current * k + 2) refl) ∙ rw (identifier-read, serial-read)
-
-  pub identifier-half : textOf (placeAt c k) / 65536 ≡ placeAt c k .identifier
-  identifier-half = rw (← text-read) (upper-half c ((headSize current) + placeSize current * k) ((headSize current) + placeSize current * k + 2) bytes refl ∙ identifier-read)
-
-  pub serial-half : textOf (placeAt c k) % 65536 ≡ placeAt c k .serial
-  serial-half = rw (← text-read) (lower-half c ((headSize current) + placeSize current * k) ((headSize current) + placeSize current * k + 2) bytes refl ∙ serial-read)
+  text-read = sym (be-run 2 2 c (placeFrom k) (placeFrom k + 2) refl) ∙ rw (identifier-read, serial-read)
 
 -- ---- live or free
 
 module _ (c : List ℕ) (bytes : Bytes c) (formed : Formed c) (k : ℕ) (room : k < placesPerCell) where
-  no-mark : length (livePlaces c) ≤ k → be (gets c ((headSize current) + placeSize current * k + 21) 1) ≡ 0
+  no-mark : length (livePlaces c) ≤ k → be (gets c (placeFrom k + 21) 1) ≡ 0
   unfolding be gets
   no-mark h = ap be (free-gets c formed k h room 21 1 (omega arith))
 
-  pub live-mark : not (eqb (be (gets c ((headSize current) + placeSize current * k + 21) 1)) 0) ≡ ltb k (length (livePlaces c))
+  pub live-mark : not (eqb (be (gets c (placeFrom k + 21) 1)) 0) ≡ ltb k (length (livePlaces c))
   live-mark =
       by-test (ltb k (length (livePlaces c)))
       (λ t. rw (t, mark-read c bytes k (live-at c formed k (ltb-true k (length (livePlaces c)) t))))
@@ -128,11 +107,12 @@ module _ (c : List ℕ) (long : length c ≡ cellSize current) where
   code-read = head-read 1
 
   four : (b : List ℕ)
-      → allAreas current b ≡ getD (numbers (headFields current) b) 3 0 ∷ getD (numbers (headFields current) b) 4 0 ∷ getD (numbers (headFields current) b) 5 0 ∷ getD (numbers (headFields current) b) 6 0 ∷ []
-  unfolding numbers
+      → allAreas current b ≡ fieldOf (headFields current) 3 b ∷ fieldOf (headFields current) 4 b ∷ fieldOf (headFields current) 5 b ∷ fieldOf (headFields current) 6 b ∷ []
+  unfolding numbers fieldOf
   four b = refl
 
-  pub areas-read : (a : Areas) → a .used ≡ be (gets c 11 1) → a .first ≡ be (gets c 12 3) → a .second ≡ be (gets c 15 3) → a .third ≡ be (gets c 18 3) → a .fourth ≡ be (gets c 21 3)
+  pub areas-read : (a : Areas) → a .used ≡ be (gets c 11 1)
+      → a .first ≡ be (gets c 12 3) → a .second ≡ be (gets c 15 3) → a .third ≡ be (gets c 18 3) → a .fourth ≡ be (gets c 21 3)
       → HeadAreas (take (headSize current) c) a
   unfolding headOf areasIn fieldOf offset
   areas-read a u e₁ e₂ e₃ e₄ =

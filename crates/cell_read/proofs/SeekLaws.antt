@@ -6,14 +6,15 @@ use mathlib.Core.List.{List, [], _∷_}
 use Prim.Native.Nat.{ℕ, suc, _+_, _<_, _≤_}
 use native.Mathlib.Numerals.{add-one}
 use native.Mathlib.Omega.{arith}
-use borrow.Author.Tests.{eq-eqb, ne-eqb, eqb-true, eqb-false, le-ltb, ltb-true, ltb-false}
+use borrow.Author.Tests.{eq-eqb, ne-eqb, le-ltb, ltb-true, ltb-false}
 use lib.Dec.{eqb, ltb}
-use lib.ListN.{length, getD, drop, drop-of-length-le}
+use lib.ListN.{length, drop, drop-of-length-le}
 use lib.Seq.{drop-cons}
 use Rattle.rules.specs.Layout.{placesPerCell}
+use Rattle.rules.specs.Table.{textOf}
 use Rattle.rules.specs.declared.Place.{Place}
-use Rattle.rules.proofs.TestLaws.{cond-either, by-test}
-use Rattle.cell_read.specs.Places.{livePlaces, noPlace, placeAt, textOf, indexOf}
+use Rattle.rules.proofs.TestLaws.{cond-either}
+use Rattle.cell_read.specs.Places.{livePlaces, noPlace, placeAt, indexOf}
 use Rattle.cell_read.proofs.PlacesLaws.{live-few}
 
 -- none of the first k places has the text
@@ -77,14 +78,3 @@ unfolding indexOf
 index-few text [] = omega arith
 index-few text (p ∷ ps) =
     cond-either (λ n. n ≤ suc (length ps)) (eqb (textOf p) text) 0 (suc (indexOf text ps)) (λ t. omega arith) (λ t. omega (arith, index-few text ps))
-
--- without the text, the number of live places: the first free one, or behind the last
-pub index-missing : (text : ℕ) (ps : List Place) → ltb (indexOf text ps) (length ps) ≡ false → indexOf text ps ≡ length ps
-index-missing text ps f = omega (arith, index-few text ps, ltb-false (indexOf text ps) (length ps) f)
-
-pub index-found : (text : ℕ) (ps : List Place) → indexOf text ps < length ps → textOf (getD ps (indexOf text ps) noPlace) ≡ text
-index-found text [] h = absurd (omega arith)
-index-found text (p ∷ ps) h =
-    by-test (eqb (textOf p) text)
-    (λ t. let e : textOf p ≡ text = eqb-true (textOf p) text t in rw (index-hit text p ps e) e)
-    (λ t. let e = index-on text p ps (eqb-false (textOf p) text t) in rw e (index-found text ps (omega arith)))

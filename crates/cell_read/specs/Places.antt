@@ -4,9 +4,9 @@ use mathlib.Core.Bool.{true, cond}
 use mathlib.Core.List.{List, [], _∷_, _++_}
 use Prim.Native.Nat.{ℕ, suc, _+_, _*_, _<_}
 use lib.Dec.{eqb}
-use lib.ListN.{length, getD, take, drop}
+use lib.ListN.{length, getD, take, drop, set}
 use Rattle.rules.specs.Layout.{current, headSize, placeSize, placesPerCell, cellSize}
-use Rattle.rules.specs.Table.{areasUsed, allAreas, headOf, isLive, placesOf, placeRuns, placesBytes}
+use Rattle.rules.specs.Table.{areasUsed, allAreas, headOf, isLive, placesOf, textOf, placeRuns, placesBytes}
 use Rattle.rules.specs.declared.Place.{Place}
 use Rattle.cell_read.specs.declared.Areas.{Areas}
 
@@ -16,6 +16,10 @@ livePlaces c = placesOf current (placeRuns current c)
 -- the cell with other places; its head stays
 unfoldable pub withPlaces : List ℕ → List Place → List ℕ
 withPlaces c ps = take (headSize current) c ++ placesBytes current ps
+
+-- the cell with another place k
+abbrev pub withPlace : List ℕ → ℕ → Place → List ℕ
+withPlace c k p = withPlaces c (set (livePlaces c) k p)
 
 -- a cell whose live places come first and whose free ones are zero: less than legal
 pub record Formed (c : List ℕ) : Type 0 where
@@ -36,6 +40,10 @@ noPlace =
       wait = record { 0 = 0 };
       sib = 0;
     }
+
+-- the byte at which place k begins
+abbrev pub placeFrom : ℕ → ℕ
+placeFrom k = headSize current + placeSize current * k
 
 -- live place k
 unfoldable pub placeAt : List ℕ → ℕ → Place
@@ -59,10 +67,6 @@ pub record OnePlace (b : List ℕ) : Type 0 where
   pub live : isLive current b ≡ true
 
 -- ---- the place of a text
-
--- identifier and serial number, side by side in one number
-unfoldable pub textOf : Place → ℕ
-textOf p = p .identifier * 65536 + p .serial
 
 -- the number of the first place with that text, the list's length if there is none
 unfoldable pub indexOf : ℕ → List Place → ℕ

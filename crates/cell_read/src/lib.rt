@@ -7,7 +7,6 @@ use octets::get32;
 use octets::get64;
 use rules::Broadcasts;
 use rules::CellIdentity;
-use rules::Place;
 use rules::Seconds;
 use rules::layout::AREA;
 use rules::layout::AREAS_AT;
@@ -21,16 +20,15 @@ use rules::layout::PLACE;
 use rules::layout::PLACES;
 use rules::layout::REQUESTED_AT;
 use rules::layout::SENT_AT;
-use rules::layout::SIB_AT;
 use rules::layout::WAIT_AT;
 ghost use mathlib.Core.Path.{_≡_};
 ghost use Prim.Native.Nat.{_<_};
 ghost use lib.Dec.{ltb};
 ghost use lib.ListN.{length, take};
 ghost use Rattle.rules.specs.Layout.{current, headSize, placesPerCell, cellSize};
-ghost use Rattle.rules.specs.Identity.{trackingItem};
-ghost use Rattle.rules.specs.Table.{headOf};
-ghost use Rattle.cell_read.specs.Places.{livePlaces, Formed, placeAt, LiveAt, textOf, indexOf, HeadAreas};
+ghost use Rattle.rules.specs.Identity.{identityNumber, trackingItem};
+ghost use Rattle.rules.specs.Table.{headOf, textOf};
+ghost use Rattle.cell_read.specs.Places.{livePlaces, Formed, placeAt, LiveAt, indexOf, HeadAreas};
 
 // ---- one place
 
@@ -38,12 +36,6 @@ ghost use Rattle.cell_read.specs.Places.{livePlaces, Formed, placeAt, Li
 pub struct Terms {
     pub period: Seconds,
     pub requested: Broadcasts,
-}
-
-// What a second changes.
-pub struct Counts {
-    pub sent: Broadcasts,
-    pub wait: Seconds,
 }
 
 pub fn is_live(cell: &[u8], k: usize) -> bool
@@ -55,7 +47,7 @@ pub fn is_live(cell: &[u8], k: usize) -> bool
 }
 
 // Identifier and serial number, side by side.
-pub fn text(cell: &[u8], k: usize) -> u32
+fn text(cell: &[u8], k: usize) -> u32
     requires { ⌜ LiveAt (now cell) k ⌝ }
     ensures { λ r. ⌜ r ≡ textOf (placeAt (now (cell .entry)) k) ⌝ }
 {
@@ -79,15 +71,6 @@ pub fn terms_of(cell: &[u8], k: usize) -> Terms
     }
 }
 
-pub fn counts_of(cell: &[u8], k: usize) -> Counts
-    requires { ⌜ LiveAt (now cell) k ⌝ }
-    ensures { λ r. ⌜ (r .sent ≡ placeAt (now (cell .entry)) k .sent) × (r .wait ≡ placeAt (now (cell .entry)) k .wait) ⌝ }
-{
-    let sent = sent(cell, k);
-    let wait = wait(cell, k);
-    Counts { sent, wait }
-}
-
 pub fn sent(cell: &[u8], k: usize) -> Broadcasts
     requires { ⌜ LiveAt (now cell) k ⌝ }
     ensures { λ r. ⌜ r ≡ placeAt (now (cell .entry)) k .sent ⌝ }
@@ -100,29 +83,6 @@ pub fn wait(cell: &[u8], k: usize) -> Seconds
     ensures { λ r. ⌜ r ≡ placeAt (now (cell .entry)) k .wait ⌝ }
 {
     Seconds(get32(cell, HEAD + PLACE * k + WAIT_AT))
-}
-
-pub fn place(cell: &[u8], k: usize) -> Place
-    requires { ⌜ LiveAt (now cell) k ⌝ }
-    ensures { λ r. ⌜ r ≡ placeAt (now (cell .entry)) k ⌝ }
-{
-    let both = text(cell, k);
-    let terms = terms_of(cell, k);
-    let period = terms.period;
-    let requested = terms.requested;
-    let counts = counts_of(cell, k);
-    let sent = counts.sent;
-    let wait = counts.wait;
-    Place {
-        identifier: (both / 65536) as u16,
-        serial: (both % 65536) as u16,
-        content: content(cell, k),
-        period,
-        requested,
-        sent,
-        wait,
-        sib: get8(cell, HEAD + PLACE * k + SIB_AT),
-    }
 }
 
 // ---- the place of a text
@@ -169,7 +129,7 @@ pub struct Areas {
 
 pub fn identity(cell: &[u8]) -> CellIdentity
     requires { ⌜ length (now cell) ≡ cellSize current ⌝ }
-    ensures { λ r. ⌜ r ≡ record { 0 = headOf current (take (headSize current) (now (cell .entry))) .identity } ⌝ }
+    ensures { λ r. ⌜ identityNumber r ≡ headOf current (take (headSize current) (now (cell .entry))) .identity ⌝ }
 {
     CellIdentity(get64(cell, 0))
 }

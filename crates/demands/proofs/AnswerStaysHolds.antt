@@ -10,7 +10,7 @@ use Rattle.rules.specs.Layout.{Version, current}
 use Rattle.rules.specs.Record.{requestOf}
 use Rattle.rules.specs.Answer.{Answer}
 use Rattle.rules.proofs.TestLaws.{by-test}
-use Rattle.rules.proofs.VersionsLaws.{answer-stays, room-stays}
+use Rattle.rules.proofs.AlikeLaws.{answer-stays, room-stays}
 use Rattle.demands.specs.Demand3.{Call, Result}
 use Rattle.demands.specs.Conversion.{Each, more, Tells, Silent, SameTold, EachTold, none-told, more-told, AnswerStays}
 
@@ -34,7 +34,8 @@ module _ (v : Version) (w : Answer) (c d : Call) (b : d .answer ≡ c .answer) (
 
 same-results : (v : Version) (t : List ℕ) (cs ds : List Call) (xs ys : List Result) → EachTold v t cs ds xs ys → Each (λ c d. d .answer ≡ c .answer) cs ds → ys ≡ xs
 same-results v t cs ds xs ys none-told same = refl
-same-results v t cs ds xs ys (more-told {c} {d} {x} {y} {cs = cs′} {ds = ds′} {xs = xs′} {ys = ys′} s rest) (more b bs) = rw (one-same v _ c d b x y s, same-results v _ cs′ ds′ xs′ ys′ rest bs)
+same-results v t cs ds xs ys (more-told {c} {d} {x} {y} {cs = cs′} {ds = ds′} {xs = xs′} {ys = ys′} s rest) (more b bs) =
+    rw (one-same v _ c d b x y s, same-results v _ cs′ ds′ xs′ ys′ rest bs)
 
 pub answer-stays-holds : AnswerStays
 answer-stays-holds =

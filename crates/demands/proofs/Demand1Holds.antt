@@ -1,26 +1,24 @@
 -- Demand 1 holds.
--- What is returned and left is what the definition says: its number is the verdict's (NumberLaws), and its refusals leave everything as it was.
+-- What is returned and left is what the definition says: its number is the verdict's (NumberLaws), which its stages decide (StageLaws), and its refusals leave everything as it was.
 use mathlib.Core.Path.{_≡_, refl, ap, _∙_}
 use mathlib.Core.List.{List}
 use Prim.Native.Nat.{ℕ}
-use native.Mathlib.Omega.{arith}
-use lib.Dec.{leb}
 use lib.ListN.{length}
 use Rattle.rules.specs.Layout.{current}
 use Rattle.rules.specs.Record.{requestOf, itemsOf}
-use Rattle.rules.specs.Refusals.{verdictNumber, fewItems, legalHeads}
+use Rattle.rules.specs.Refusals.{verdictNumber}
 use Rattle.rules.specs.Applied.{Filled, ReadOutcome, Outcome, built, conversion, written, readOf, itemAt, applied}
-use Rattle.rules.specs.declared.Refusal.the-variants.{RecordLength, BadHeads, ListDamaged, TooManySegments}
 use Rattle.rules.specs.declared.Verdict.{Verdict}
 use Rattle.rules.proofs.VerdictLaws.{write-chain, apply-chain, convert-chain, build-chain}
 use Rattle.rules.proofs.OutcomeLaws.{built-refused, conversion-refused, written-refused, read-refused, applied-refused}
-use Rattle.segments.specs.Segments.{Lies, mostSegments, lengthsFit, liesAt, packVerdict, packed}
+use Rattle.segments.specs.Segments.{Lies, liesAt, packVerdict, packed}
 use Rattle.segments.proofs.Refused.{lies-refused, packed-refused}
 use Rattle.pws.specs.Surface.{filled}
 use Rattle.pws.specs.declared.PwsDone.{PwsDone}
 use Rattle.demands.specs.Demand1.{Stage, Filling, Demand1}
 use Rattle.demands.proofs.ContractsHold.{contracts-hold}
-use Rattle.demands.proofs.NumberLaws.{fill-number, reading-number, outcome-number, lying-number, within-table, within-older, within-asked, within-record, within-room, within-segment, within-last, chain, EachWithin, numbered}
+use Rattle.demands.proofs.NumberLaws.{fill-number, reading-number, outcome-number, lying-number}
+use Rattle.demands.proofs.StageLaws.{within-table, within-older, within-record, within-items, within-asked, within-room, within-heads, within-segment, within-lengths, within-count, chain, EachWithin, numbered}
 
 -- ---- field by field
 
@@ -83,19 +81,22 @@ unfolding built conversion applied readOf written liesAt packed packVerdict
 demand-1 =
     record {
       contracts = contracts-hold;
-      of-build = λ heads table d table′ p.
-          filling _ (within-last (legalHeads heads) BadHeads (omega arith, omega arith), (within-room _ (length table), tt)) _ (build-chain heads (length table)) _ table (fill-number _ _ table) (built-refused heads table) d table′ p;
-      of-convert = λ old table d table′ p.
-          filling _ (within-older old, (within-room _ (length table), tt)) _ (convert-chain old (length table)) _ table (fill-number _ _ table) (conversion-refused old table) d table′ p;
+      of-build = λ heads table.
+          filling _ (within-heads heads, (within-room _ (length table), tt)) _ (build-chain heads (length table)) _ table (fill-number _ _ table) (built-refused heads table);
+      of-convert = λ old table.
+          filling _ (within-older old, (within-room _ (length table), tt)) _ (convert-chain old (length table)) _ table (fill-number _ _ table) (conversion-refused old table);
       apply-numbered = λ table req answer d table′ answer′ p.
-          numbered _ (within-table table, (within-record req, (within-room _ (length answer), tt))) _ (apply-chain current table req (length answer)) (d .number) (number-left p ∙ outcome-number current _ (requestOf req) (itemsOf req) table answer);
+          numbered _ (within-table table, (within-record req, (within-room _ (length answer), tt))) _ (apply-chain current table req (length answer)) (d .number)
+          (number-left p ∙ outcome-number current _ (requestOf req) (itemsOf req) table answer);
       apply-refused = λ table req answer d table′ answer′ p h.
           let x = applied-refused current table req answer (λ z. h (number-left p ∙ z)) in
           (length-left p ∙ x .0, table-left p ∙ x .1, answer-left p ∙ x .2);
-      of-write = λ request items buffer d buffer′ p.
-          filling _ (within-last (fewItems (length items)) RecordLength (omega arith, omega arith), (within-asked request items, (within-room _ (length buffer), tt))) _ (write-chain request items (length buffer)) _ buffer (fill-number _ _ buffer) (written-refused request items buffer) d buffer′ p;
-      of-pack = λ bytes lengths list d list′ p.
-          filling _ (within-last (lengthsFit lengths (length bytes)) ListDamaged (omega arith, omega arith), (within-last (leb (length lengths) mostSegments) TooManySegments (omega arith, omega arith), (within-room _ (length list), tt))) _ refl _ list (fill-number _ _ list) (packed-refused bytes lengths list) d list′ p;
+      of-write = λ request items buffer.
+          filling _ (within-items items, (within-asked request items, (within-room _ (length buffer), tt))) _ (write-chain request items (length buffer)) _ buffer
+          (fill-number _ _ buffer) (written-refused request items buffer);
+      of-pack = λ bytes lengths list.
+          filling _ (within-lengths lengths (length bytes), (within-count lengths, (within-room _ (length list), tt))) _ refl _ list
+          (fill-number _ _ list) (packed-refused bytes lengths list);
       read-numbered = λ req d p. numbered _ (within-record req, tt) _ refl (d .number) (number-read p ∙ reading-number _ req);
       read-refused = λ req d p h.
           let x = read-refused req (λ z. h (number-read p ∙ z)) in

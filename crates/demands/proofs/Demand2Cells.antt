@@ -68,9 +68,10 @@ module _ (t r a : List ℕ) (bt : Bytes t) (br : Bytes r) (e : applyVerdict curr
     head-same =
         let f = all-at (table-cells current t bt legal) k [] in-runs in
         let c = cellOf current (cellAt t k) in
+        let front : List ℕ → List ℕ = take (headSize current) in
         by-test (reached r c)
-        (λ x. ap (take (headSize current)) (changes x) ∙ head-of-cellBytes current (ruled r c) ∙ sym (head-of-cellBytes current c) ∙ ap (take (headSize current)) (cell-back current (cellAt t k) (f .0) (f .1) (f .2)))
-        (λ x. ap (take (headSize current)) (stays x))
+        (λ x. ap front (changes x) ∙ head-of-cellBytes current (ruled r c) ∙ sym (head-of-cellBytes current c) ∙ ap front (cell-back current (cellAt t k) (f .0) (f .1) (f .2)))
+        (λ x. ap front (stays x))
 
   pub on-table : TableChanged t r (applied current t r a)
   on-table =

@@ -18,7 +18,8 @@ use Rattle.rules.proofs.AcceptedRecordLaws.{record-accepted}
 use Rattle.rules.proofs.OutcomeLaws.{applied-accepted}
 use Rattle.rules.proofs.AcceptedCallLaws.{call-accepted}
 use Rattle.demands.specs.Demand3.{Call, outcomeOn, run, AcceptedAnywhere, CellsStay, SecondReachesAll}
-use Rattle.demands.proofs.Runs.{cellBefore, verdict-stays, run-goes, cells-after}
+use Rattle.demands.proofs.OneCall.{cellBefore, verdict-stays}
+use Rattle.demands.proofs.Runs.{run-goes, cells-after}
 
 number-of : (u : List ℕ) (c : Call) → outcomeOn u c .number ≡ verdictNumber (applyVerdict current u (c .req) (length (c .answer)))
 unfolding applied outcome

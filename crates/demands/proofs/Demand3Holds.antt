@@ -22,7 +22,8 @@ use Rattle.demands.specs.Demand3.{Call, Result, outcomeOn, resultOf, run
 use Rattle.demands.proofs.NumberLaws.{accepted-number}
 use Rattle.demands.proofs.Zip.{Orders, Level, zip, level-end, level-at}
 use Rattle.demands.proofs.Positions.{position-some, all-positions, place-in, origin-in}
-use Rattle.demands.proofs.Runs.{takes, reachesHead, rowsIn, rowsOf, verdict, touches, untouched, steps, cellBefore, run-goes, cells-before, cells-after, table-after, result-same, result-at}
+use Rattle.demands.proofs.OneCall.{takes, reachesHead, rowsIn, rowsOf, verdict, touches, untouched, steps, cellBefore}
+use Rattle.demands.proofs.Runs.{run-goes, cells-before, cells-after, table-after, result-same, result-at}
 
 takes-accepted : (v : Verdict) → takes v ≡ true → v ≡ Accepted
 takes-accepted Accepted e = refl

@@ -1,45 +1,29 @@
 -- The two samples of demand 3 hold.
--- Both runs are computed; the calls that do not meet reach no common cell, which is computed too.
+-- What each call leaves is computed in rules (CallSamples); the calls that do not meet reach no common cell, which is computed there too.
 use mathlib.Core.Path.{_≡_, refl, sym, ap, _∙_}
 use mathlib.Core.Bool.{Bool, true, false, _&&_, false≢true}
 use mathlib.Core.Option.{some}
-use mathlib.Core.List.{List, [], _∷_, _++_, flatMap, List·Permᴰ·swap}
-use Prim.Native.Nat.{ℕ, zero, suc, _<_}
+use mathlib.Core.List.{List, [], _∷_, List·Permᴰ·swap}
+use Prim.Native.Nat.{ℕ, zero, suc}
 use native.Mathlib.Omega.{arith}
-use lib.Dec.{ltb}
-use lib.ListN.{getD, getElem?}
-use borrow.Author.Tests.{ltb-true}
-use Rattle.octets.specs.Runs.{Bytes, gets, pieces}
-use Rattle.octets.specs.Numbers.{be, toBe}
-use Rattle.octets.specs.Fields.{size, numbers, bytesOf, padded, fieldOf}
-use Rattle.rules.specs.Lists.{every, any, those, zeros, oneOf, above, ascending}
+use lib.ListN.{length, getD, getElem?}
+use Rattle.rules.specs.Lists.{any}
 use Rattle.rules.specs.Layout.{current}
-use Rattle.rules.specs.Table.{Cell, headOf, headNumbers, headBytes, legalHead, placeOf, placeNumbers, placeBytes, isFree, isLive, liveFirst, placesOf, legalPlace, isText, running, different, legalPlaces, cellOf, placesBytes, cellBytes, legalCell, cellsOf, headerBytes, tableBytes, tableMarked, legalTable}
-use Rattle.rules.specs.Record.{requestOf, itemsOf, recordMarked, allowed, kindAllows, areaFits, withinLimits, cancelsNothing}
-use Rattle.rules.specs.Reach.{names, reaches}
-use Rattle.rules.specs.InCell.{startsNothing, newPlace, start, cancel, inCell}
-use Rattle.rules.specs.Answer.{rowBytes, answerHead, answerBytes, roomFor}
-use Rattle.rules.specs.Refusals.{tableVerdict, requestVerdict, recordVerdict, applyVerdict}
-use Rattle.rules.specs.Applied.{stepCell, outcome, applied}
-use Rattle.rules.specs.Reply.{cellRows, replyOf}
-use Rattle.rules.specs.ByHand.{head, free}
-use Rattle.rules.proofs.TestLaws.{both, and-true, neither}
-use Rattle.demands.specs.Demand3.{Call, runIn, Meet, KeepsOrder}
-use Rattle.demands.specs.Demand3Samples.{callOf, starting, stopping, startingHere, stoppingThere, twoCells, Demand3Shown}
+use Rattle.rules.specs.Table.{Cell, cellsOf}
+use Rattle.rules.specs.Applied.{Outcome}
+use Rattle.rules.specs.ByHand.{blank, one}
+use Rattle.rules.specs.Samples.{flood}
+use Rattle.rules.specs.CallSamples.{starting, stopping, startingHere, stoppingThere, freeCell, twoCells, cellWith, CallSamplesHold}
+use Rattle.rules.proofs.TestLaws.{and-true, neither}
+use Rattle.rules.proofs.AcceptedCallLaws.{call-accepted}
+use Rattle.rules.proofs.SamplesHold.{samples-hold}
+use Rattle.demands.specs.Demand3.{Call, run, runIn, Meet, KeepsOrder}
+use Rattle.demands.specs.Demand3Samples.{callOf, Demand3Shown}
 use Rattle.demands.proofs.Positions.{position-in}
 use Rattle.demands.proofs.Permutations.{permuted}
-use Rattle.demands.proofs.Runs.{reachesHead}
+use Rattle.demands.proofs.OneCall.{reachesHead}
 
--- ---- by computing
-
-pub bytes-tested : (l : List ℕ) → every (λ x. ltb x 256) l ≡ true → Bytes l
-unfolding every
-bytes-tested [] e i = omega arith
-bytes-tested (x ∷ l) e i = let h = both (ltb x 256) (every (λ y. ltb y 256) l) e in go i (ltb-true x 256 (h .0)) (bytes-tested l (h .1))
-  where
-    go : (k : ℕ) → x < 256 → Bytes l → getD (x ∷ l) k 0 < 256
-    go zero p q = p
-    go (suc k) p q = q k
+-- ---- calls that do not meet
 
 none-at : {A : Type 0} (f : A → Bool) (l : List A) (k : ℕ) {x : A} → any f l ≡ false → getElem? l k ≡ some x → f x ≡ false
 unfolding any
@@ -65,38 +49,58 @@ keeps-two t c d n place i j a b h p q m =
 
 -- ---- the samples
 
+-- what rules computed
+calls : CallSamplesHold
+calls = samples-hold .2
+
+abbrev start : Call
+start = callOf starting (calls .started .record-bytes)
+
+abbrev stop : Call
+stop = callOf stopping (calls .stopped-none .record-bytes)
+
+abbrev startHere : Call
+startHere = callOf startingHere (calls .started-here .record-bytes)
+
+abbrev stopThere : Call
+stopThere = callOf stoppingThere (calls .stopped-there .record-bytes)
+
 pub demand-3-shown : Demand3Shown
-unfolding flatMap gets pieces be toBe size numbers bytesOf padded every any those zeros oneOf above ascending fieldOf headOf headNumbers headBytes legalHead placeOf placeNumbers placeBytes isFree isLive liveFirst placesOf legalPlace isText running different legalPlaces cellOf placesBytes cellBytes legalCell cellsOf headerBytes tableBytes tableMarked legalTable requestOf itemsOf recordMarked allowed kindAllows areaFits withinLimits cancelsNothing names reaches startsNothing newPlace start cancel inCell rowBytes answerHead answerBytes roomFor tableVerdict requestVerdict recordVerdict applyVerdict stepCell cellRows replyOf outcome applied runIn
+unfolding runIn
 demand-3-shown =
     record {
-      starting-bytes = bytes-tested starting refl;
-      stopping-bytes = bytes-tested stopping refl;
+      starting-bytes = calls .started .record-bytes;
+      stopping-bytes = calls .stopped-none .record-bytes;
       they-meet =
           record {
             meet =
                 record {
-                  first-accepted = refl;
-                  second-accepted = refl;
-                  cell = cellOf current (head 16 1 ++ free 4);
+                  first-accepted = ap (λ (o : Outcome). o .number) (calls .started .gives);
+                  second-accepted = ap (λ (o : Outcome). o .number) (calls .stopped-none .gives);
+                  cell = cellWith [];
                   index = 0;
-                  in-table = refl;
-                  first-reaches = refl;
-                  second-reaches = refl;
+                  in-table = ap (λ l. getElem? l 0) (calls .cells-free);
+                  first-reaches = calls .both-reach .0;
+                  second-reaches = calls .both-reach .1;
                 };
-            this-order = refl;
-            other-order = refl;
+            this-order = rw (calls .started .gives, calls .stopped-new .gives);
+            other-order = rw (calls .stopped-none .gives, calls .started .gives);
             -- the first byte of the first place
-            differ = λ s. let z : _≡_ {A = ℕ} 17 0 = ap (λ l. getD l 40 0) (s .same-table) in omega arith;
+            differ = λ s.
+                let this : run freeCell (start ∷ stop ∷ []) .0 ≡ freeCell = rw (calls .started .gives, calls .stopped-new .gives) in
+                let other : run freeCell (stop ∷ start ∷ []) .0 ≡ one (flood 0 0) = rw (calls .stopped-none .gives, calls .started .gives) in
+                let z : _≡_ {A = ℕ} 17 0 = ap (λ l. getD l 40 0) (sym other ∙ s .same-table ∙ this) in
+                omega arith;
           };
-      starting-here-bytes = bytes-tested startingHere refl;
-      stopping-there-bytes = bytes-tested stoppingThere refl;
+      starting-here-bytes = calls .started-here .record-bytes;
+      stopping-there-bytes = calls .stopped-there .record-bytes;
       they-do-not =
           record {
-            table-bytes = bytes-tested twoCells refl;
-            legal = refl;
+            table-bytes = calls .started-here .table-bytes;
+            legal = call-accepted current twoCells startingHere (length blank) (calls .started-here .accepted) .table;
             order = permuted (List·Permᴰ·swap refl refl);
-            keeps = keeps-two _ _ _ (apart twoCells (callOf startingHere (bytes-tested startingHere refl)) (callOf stoppingThere (bytes-tested stoppingThere refl)) refl) _;
-            this-order = refl;
-            other-order = refl;
+            keeps = keeps-two _ _ _ (apart twoCells startHere stopThere (calls .none-common)) _;
+            this-order = rw (calls .started-here .gives, calls .then-stopped-there .gives);
+            other-order = rw (calls .stopped-there .gives, calls .then-started-here .gives);
           };
     }

@@ -49,14 +49,16 @@ module _ (r s : List ℕ) (e : SameButForItems r s) where
   record-same =
       let w = e .first-whole in
       let x = e .second-whole in
-      rw (w .marked, x .marked, le-leb _ _ (w .few), le-leb _ _ (x .few), eq-eqb _ _ (w .size), eq-eqb _ _ (x .size), zero-same, version-same, request-same, judged-alike (itemsOf s) (itemsOf r) (e .same-members) (eqb (zeroByte r) 0) (longestAsked r) (requestOf r))
+      let judged = judged-alike (itemsOf s) (itemsOf r) (e .same-members) (eqb (zeroByte r) 0) (longestAsked r) (requestOf r) in
+      rw (w .marked, x .marked, le-leb _ _ (w .few), le-leb _ _ (x .few), eq-eqb _ _ (w .size), eq-eqb _ _ (x .size), zero-same, version-same, request-same, judged)
 
   verdict-same : (t : List ℕ) (room : ℕ) → applyVerdict current t s room ≡ applyVerdict current t r room
   verdict-same t room = rw (apply-chain current t s room, apply-chain current t r room, record-same, request-same)
 
 -- ---- outcomes
 
-outcome-same : (v : Verdict) (q : Request) (items others : List ℕ) → SameMembers others items → (t a : List ℕ) → SameReply (outcome current v q items t a) (outcome current v q others t a)
+outcome-same : (v : Verdict) (q : Request) (items others : List ℕ) → SameMembers others items → (t a : List ℕ)
+    → SameReply (outcome current v q items t a) (outcome current v q others t a)
 unfolding outcome replyOf
 outcome-same (Refused x) q items others same t a = record { number = refl; length = refl; table = refl; answer = refl }
 outcome-same Accepted q items others same t a =

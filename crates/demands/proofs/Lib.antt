@@ -1,5 +1,6 @@
 pub mod ContractsHold
 pub mod NumberLaws
+pub mod StageLaws
 pub mod Demand1Holds
 pub mod Demand2Once
 pub mod Demand2Cells
@@ -8,6 +9,7 @@ pub mod Demand2Holds
 pub mod Zip
 pub mod Positions
 pub mod Permutations
+pub mod OneCall
 pub mod Runs
 pub mod Demand3Holds
 pub mod Demand3Chains

@@ -7,7 +7,7 @@ use mathlib.Core.List.{List, [], _∷_}
 use Prim.Native.Nat.{ℕ, zero, suc, _<_}
 use native.Mathlib.Omega.{arith}
 use lib.Dec.{eqb}
-use lib.ListN.{length}
+use lib.ListN.{length, getD}
 use borrow.Author.Tests.{eqb-true, eqb-false}
 use Rattle.octets.specs.Runs.{Bytes}
 use Rattle.rules.specs.Lists.{any}
@@ -16,6 +16,7 @@ use Rattle.rules.specs.Table.{Cell, running, cellOf, cellCount, cellsOf}
 use Rattle.rules.specs.Record.{writeReplace, isPrimary, concurrent, oneSecond, requestOf, itemsOf}
 use Rattle.rules.specs.Reply.{Row, replyOf}
 use Rattle.rules.specs.Refusals.{tableVerdict}
+use Rattle.rules.specs.declared.Place.{Place}
 use Rattle.rules.specs.declared.Verdict.the-variants.{Accepted}
 use Rattle.rules.proofs.ListsLaws.{some-at, some-flatMap}
 use Rattle.rules.proofs.TestLaws.{by-test}
@@ -48,8 +49,9 @@ module _ (k identifier serial content : ℕ) where
   module _ (t : List ℕ) (bytes : Bytes t) (there : k < cellCount t) (here : GoesOutIn t k identifier serial content) (c : Call) where
     accepted-goes : Accepted-on t c → (Reaches c (cellIn t k) → stopsText identifier serial (requestOf (c .req)) (cellIn t k .places) ≡ false) → Goes t (outcomeOn t c .table)
     accepted-goes z spared =
+        let text : Place → Bool = goesOut identifier serial content in
         let after = demand-2 .of-applied t (c .req) (c .answer) bytes (c .are-bytes) .accepted z .on-table in
-        let make : (x : Cell) → cellIn (outcomeOn t c .table) k ≡ x → x .head ≡ cellIn t k .head → any (goesOut identifier serial content) (x .places) ≡ true → Goes t (outcomeOn t c .table) =
+        let make : (x : Cell) → cellIn (outcomeOn t c .table) k ≡ x → x .head ≡ cellIn t k .head → any text (x .places) ≡ true → Goes t (outcomeOn t c .table) =
         λ x e h l. record { bytes = after .bytes; legal = after .legal; there = rw (after .same-count) there; head = rw e h; live = rw e l } in
         by-test (reached (c .req) (cellIn t k))
         (λ r. make (ruled (c .req) (cellIn t k)) (after .reached-reads k there r) refl (spared-keeps identifier serial content (requestOf (c .req)) (cellIn t k .places) here (spared r)))
@@ -63,18 +65,22 @@ module _ (k identifier serial content : ℕ) where
     unfolding replyOf
     reports z s =
         let has : Row → Bool = λ w. eqb (w .identity) (cellIn t k .head .identity) && eqb (w .content) content in
-        let told : any has (rowsIn (c .req) (cellIn t k)) ≡ true =
+        let rows : Cell → Bool = λ x. any has (rowsIn (c .req) x) in
+        let told : rows (cellIn t k) ≡ true =
         rw (of-second t (c .req) (c .answer) bytes (c .are-bytes) z s (cellIn t k)) (second-reports identifier serial content (cellIn t k) here) in
-        let in-table = some-at (λ x. any has (rowsIn (c .req) x)) (cellsOf current t) k (cellOf current []) (rw (length-cellsOf current t) there) (rw (cell-at t (c .req) (c .answer) bytes (c .are-bytes) z k there) told) in
+        let told-at : rows (getD (cellsOf current t) k (cellOf current [])) ≡ true = rw (cell-at t (c .req) (c .answer) bytes (c .are-bytes) z k there) told in
+        let in-table = some-at rows (cellsOf current t) k (cellOf current []) (rw (length-cellsOf current t) there) told-at in
         let e = applied-accepted current t (c .req) (c .answer) z in
         record {
           reply = replyOf (requestOf (c .req)) (itemsOf (c .req)) (cellsOf current t);
           bytes = applied-told current t (c .req) (c .answer) bytes (c .are-bytes) e;
           reads = applied-reads current t (c .req) (c .answer) bytes (c .are-bytes) e;
-          among = some-flatMap (rowsIn (c .req)) (λ x. any has (rowsIn (c .req) x)) has (cellsOf current t) (λ x e. e) in-table;
+          among = some-flatMap (rowsIn (c .req)) rows has (cellsOf current t) (λ x e. e) in-table;
         }
 
-    goes-on : tableVerdict current t ≡ Accepted → (Accepted-on t c → Reaches c (cellIn t k) → stopsText identifier serial (requestOf (c .req)) (cellIn t k .places) ≡ false) → Goes t (outcomeOn t c .table)
+    goes-on : tableVerdict current t ≡ Accepted
+        → (Accepted-on t c → Reaches c (cellIn t k) → stopsText identifier serial (requestOf (c .req)) (cellIn t k .places) ≡ false)
+        → Goes t (outcomeOn t c .table)
     goes-on legal spared =
         by-test (eqb (outcomeOn t c .number) 0)
         (λ y. let z = eqb-true (outcomeOn t c .number) 0 y in accepted-goes z (spared z))
@@ -96,7 +102,8 @@ module _ (k identifier serial content : ℕ) where
 
 -- ---- its start
 
-starts : (t : List ℕ) → Bytes t → (k : ℕ) → k < cellCount t → (c : Call) → Accepted-on t c → Reaches c (cellIn t k) → let q = requestOf (c .req) in q .kind ≡ writeReplace → isPrimary q ≡ true
+starts : (t : List ℕ) → Bytes t → (k : ℕ) → k < cellCount t → (c : Call) → Accepted-on t c → Reaches c (cellIn t k)
+    → let q = requestOf (c .req) in q .kind ≡ writeReplace → isPrimary q ≡ true
     → running (q .identifier) (q .serial) (cellIn t k .places) ≡ false → (concurrent q ≡ true → length (cellIn t k .places) < placesPerCell)
     → GoesOutIn (outcomeOn t c .table) k (q .identifier) (q .serial) (q .content)
 starts t bytes k there c z r kind primary new room =
@@ -108,5 +115,6 @@ primary-runs =
     record {
       starts = starts;
       goes-out = λ t bytes legal k identifier serial content there here. goes-out k identifier serial content t bytes legal there here;
-      promised = λ t bytes legal k identifier serial content there here cs spared u xs chain. rw (ap (λ (w : List ℕ × List Result). w .1) (chain-is-run chain)) (goes-out k identifier serial content t bytes legal there here cs spared);
+      promised = λ t bytes legal k identifier serial content there here cs spared u xs chain.
+          rw (ap (λ (w : List ℕ × List Result). w .1) (chain-is-run chain)) (goes-out k identifier serial content t bytes legal there here cs spared);
     }

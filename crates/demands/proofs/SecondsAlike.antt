@@ -9,15 +9,14 @@ use native.Mathlib.Omega.{arith}
 use borrow.Author.Tests.{le-leb, eq-eqb}
 use lib.Dec.{eqb}
 use lib.ListN.{length}
-use Rattle.octets.specs.Runs.{Bytes, pieces}
+use Rattle.octets.specs.Runs.{pieces}
 use Rattle.octets.specs.Numbers.{be, toBe}
 use Rattle.octets.specs.Fields.{numbers, fieldOf}
 use Rattle.rules.specs.Lists.{every, any, zeros, oneOf}
 use Rattle.rules.specs.Layout.{Version, version1, version2, versionNumber, current}
-use Rattle.rules.specs.Table.{cellCount}
 use Rattle.rules.specs.Record.{oneSecond, requestOf, itemsOf, versionIn, renewed, recordMarked, allowed, kindAllows, areaFits, withinLimits, cancelsNothing}
 use Rattle.rules.specs.Answer.{roomFor}
-use Rattle.rules.specs.Refusals.{tableVerdict, requestVerdict, recordVerdict}
+use Rattle.rules.specs.Refusals.{requestVerdict, recordVerdict}
 use Rattle.rules.specs.declared.Verdict.the-variants.{Accepted}
 use Rattle.rules.proofs.VerdictLaws.{apply-chain}
 use Rattle.rules.proofs.TestLaws.{and-true}
@@ -25,7 +24,7 @@ use Rattle.rules.proofs.VersionsLaws.{taken-version, asked-period, still-taken}
 use Rattle.demands.specs.Demand3.{Call, Result, outcomeIn, runIn}
 use Rattle.demands.specs.Conversion.{SentToday, as-it-stands, written-anew, SameCall, Each, none, more, secondRecord, SameSecond}
 use Rattle.demands.proofs.NumberLaws.{accepted-number}
-use Rattle.demands.proofs.ToldAlike.{still-legal}
+use Rattle.demands.proofs.OneCall.{LegalWith, still-legal}
 
 -- ---- its record, computed
 
@@ -56,30 +55,32 @@ second-sent v w h r s p (inr q) =
     let e = second-judged v w h in
     written-anew (rw p (taken-version v (secondRecord w) e)) (rw p (asked-period v (secondRecord w) e)) (q ∙ second-renewed w ∙ ap renewed (sym p))
 
-module _ (v : Version) where
-  second-same : (n : ℕ) (c d : Call) → SameSecond v n c d → SameCall v n c d
-  second-same n c d s =
+module _ (v : Version) (n : ℕ) where
+  second-same : (c d : Call) → SameSecond v n c d → SameCall v n c d
+  second-same c d s =
+      let fits-now = le-leb (roomFor current oneSecond n) (length (d .answer)) (s .now-room) in
+      let fits-then = le-leb (roomFor v oneSecond n) (length (c .answer)) (s .then-room) in
       record {
         req = second-sent v (s .version) (s .taken) (c .req) (d .req) (s .then-sent) (s .now-sent);
-        rooms = rw (s .then-sent, second-kind (s .version), le-leb (roomFor current oneSecond n) (length (d .answer)) (s .now-room), le-leb (roomFor v oneSecond n) (length (c .answer)) (s .then-room));
+        rooms = rw (s .then-sent, second-kind (s .version), fits-now, fits-then);
       }
 
-  pub seconds-sent : {n : ℕ} {cs ds : List Call} → Each (SameSecond v n) cs ds → Each (SameCall v n) cs ds
+  pub seconds-sent : {cs ds : List Call} → Each (SameSecond v n) cs ds → Each (SameCall v n) cs ds
   seconds-sent none = none
-  seconds-sent {n} (more {c} {d} s rest) = more (second-same n c d s) (seconds-sent rest)
+  seconds-sent (more {c} {d} s rest) = more (second-same c d s) (seconds-sent rest)
 
   -- ---- accepted
 
   -- the record is, and so is the call wherever there is room
-  second-accepted : (t : List ℕ) → tableVerdict v t ≡ Accepted → (c d : Call) → SameSecond v (cellCount t) c d → outcomeIn v t c .number ≡ 0
-  second-accepted t legal c d s =
+  second-accepted : (t : List ℕ) → LegalWith v n t → (c d : Call) → SameSecond v n c d → outcomeIn v t c .number ≡ 0
+  second-accepted t g c d s =
+      let judged = second-judged v (s .version) (s .taken) in
+      let fits = le-leb (roomFor v oneSecond n) (length (c .answer)) (s .then-room) in
       accepted-number v t (c .req) (c .answer)
-      (rw (apply-chain v t (c .req) (length (c .answer)), legal, s .then-sent, second-judged v (s .version) (s .taken), second-kind (s .version), le-leb (roomFor v oneSecond (cellCount t)) (length (c .answer)) (s .then-room)))
+      (rw (apply-chain v t (c .req) (length (c .answer)), g .accepted, s .then-sent, judged, second-kind (s .version), g .count, fits))
 
-  pub seconds-accepted : (t : List ℕ) → Bytes t → tableVerdict v t ≡ Accepted → {cs ds : List Call} (n : ℕ) → cellCount t ≡ n → Each (SameSecond v n) cs ds
-      → every (λ (x : Result). eqb (x .number) 0) (runIn v t cs .1) ≡ true
+  pub seconds-accepted : (t : List ℕ) → LegalWith v n t → {cs ds : List Call} → Each (SameSecond v n) cs ds → every (λ (x : Result). eqb (x .number) 0) (runIn v t cs .1) ≡ true
   unfolding runIn every
-  seconds-accepted t bytes legal n e none = refl
-  seconds-accepted t bytes legal n e (more {c} {d} s rest) =
-      let l = still-legal v t bytes legal c in
-      and-true _ _ (eq-eqb _ 0 (second-accepted t legal c d (rw e s))) (seconds-accepted (outcomeIn v t c .table) (l .bytes-left) (l .legal-left) n (l .count-left ∙ e) rest)
+  seconds-accepted t g none = refl
+  seconds-accepted t g (more {c} {d} s rest) =
+      and-true _ _ (eq-eqb _ 0 (second-accepted t g c d s)) (seconds-accepted (outcomeIn v t c .table) (still-legal v n t g c) rest)

@@ -101,7 +101,7 @@ pub record Demand1 : Type 2 where
       → (d .number ≡ 0 → ⊥) → (d .length ≡ 0) × (table′ ≡ table) × (answer′ ≡ answer)
   pub of-write : (request : Request) (items buffer : List ℕ) (d : PwsDone) (buffer′ : List ℕ) → WritePromise request items buffer d buffer′
       → let room = length buffer in
-      Filling d buffer buffer′ (writeVerdict request items room) (itemsStage items ∷ requestStage request items ∷ roomStage (recordSize + itemSize * length items) room ∷ [])
+      Filling d buffer buffer′ (writeVerdict request items room) (itemsStage items ∷ requestStage request items ∷ roomStage (recordSize + itemSize current * length items) room ∷ [])
   pub of-pack : (bytes lengths list : List ℕ) (d : PwsDone) (list′ : List ℕ) → PackPromise bytes lengths list d list′
       → let room = length list in
       Filling d list list′ (packVerdict bytes lengths room) (lengthsStage lengths (length bytes) ∷ countStage lengths ∷ roomStage (length (listBytes (cutAt lengths bytes))) room ∷ [])

@@ -1,5 +1,6 @@
 -- Demand 2: a call that document 01 accepts is accepted, changes the reached cells by the rule of its kind and nothing else, and its answer reports those cells in order.
--- A record that was written reads back as the request and items given, and one that was read is written back to the same bytes; one of version 1 (document 02, 3/13) comes back as version 2 with the same fields.
+-- A record that was written reads back as the request and items given, and one that was read is written back to the same bytes.
+-- One of version 1 (document 02, 3/13) comes back as version 2 with the same fields.
 use mathlib.Core.Path.{_≡_}
 use mathlib.Core.Bool.{Bool, true, false}
 use mathlib.Core.List.{List, [], _++_, map, flatMap}
@@ -100,7 +101,7 @@ abbrev pub WriteRead : Type 0
 WriteRead =
     (q : Request) (items buffer : List ℕ) → fitRequest q ≡ true → written q items buffer .number ≡ 0
     → let bytes = take (written q items buffer .length) (written q items buffer .buffer) in
-    (written q items buffer .length ≡ recordSize + itemSize * length items)
+    (written q items buffer .length ≡ recordSize + itemSize current * length items)
     × (readOf bytes ≡ record { number = 0; request = q; items = length items })
     × (itemsOf bytes ≡ items)
     -- `pws_item` gives the k-th of them, and 0 behind the last

@@ -1,4 +1,4 @@
--- Demand 3 on real bytes: calls that meet may not change places, calls that do not meet may. Records and tables are document 01's samples (crate rules).
+-- Demand 3 on real bytes: calls that meet may not change places, calls that do not meet may. Records and tables are document 01's samples (rules, specs/CallSamples).
 -- So the premise can be met by an order that differs, and cannot be left out.
 use mathlib.Core.Path.{_≡_}
 use mathlib.Core.List.{List, [], _∷_, _++_}
@@ -7,8 +7,9 @@ use Rattle.octets.specs.Runs.{Bytes}
 use Rattle.rules.specs.Layout.{current}
 use Rattle.rules.specs.Refusals.{tableVerdict}
 use Rattle.rules.specs.declared.Verdict.the-variants.{Accepted}
-use Rattle.rules.specs.ByHand.{identity, free, request, starts, cancels, answers, says, blank, leaves, one}
+use Rattle.rules.specs.ByHand.{free, answers, says, blank, leaves, one}
 use Rattle.rules.specs.Samples.{two, flood}
+use Rattle.rules.specs.CallSamples.{starting, stopping, startingHere, stoppingThere, freeCell, twoCells}
 use Rattle.demands.specs.Demand3.{Call, Result, resultOf, run, Meet, Permuted, KeepsOrder, SameOutcome}
 
 -- a call with a blank answer buffer, and what it gets if it is accepted: the answer at the start of it
@@ -26,35 +27,17 @@ exchanged (suc (suc i)) = suc (suc i)
 
 -- ---- a start and a cancel of the same text, on a table of one cell with free places
 
-abbrev pub starting : List ℕ
-starting = starts 0 4370 7 2 3
-
-abbrev pub stopping : List ℕ
-stopping = cancels 4 4370 16 0 0 []
-
-abbrev pub freeCell : List ℕ
-freeCell = one (free 4)
-
 pub record TheyMeet (start stop : Call) : Type 0 where
   pub meet : Meet freeCell start stop
   -- the text stops, and the cancel reports it ..
   pub this-order : run freeCell (start ∷ stop ∷ [])
-      ≡ (one (free 4), answered (answers 1 4370 16 1 ++ says 16 0 0) ∷ answered (answers 2 4370 16 1 ++ says 16 0 0) ∷ [])
+      ≡ (freeCell, answered (answers 1 4370 16 1 ++ says 16 0 0) ∷ answered (answers 2 4370 16 1 ++ says 16 0 0) ∷ [])
   -- .. or it runs on, and the cancel reports nothing
   pub other-order : run freeCell (stop ∷ start ∷ [])
       ≡ (one (flood 0 0), answered (answers 2 4370 16 0) ∷ answered (answers 1 4370 16 1 ++ says 16 0 0) ∷ [])
   pub differ : SameOutcome (start ∷ stop ∷ []) exchanged (run freeCell (start ∷ stop ∷ [])) (run freeCell (stop ∷ start ∷ [])) → ⊥
 
 -- ---- a start in the first of two cells, and a cancel in the tracking area of the second, where the text was sent twice
-
-abbrev pub startingHere : List ℕ
-startingHere = request 1 0 1 4370 16 7 2 3 8 1 (identity 16)
-
-abbrev pub stoppingThere : List ℕ
-stoppingThere = cancels 4 4370 16 2 1 (0 ∷ 0 ∷ 0 ∷ 241 ∷ 16 ∷ 0 ∷ 0 ∷ 2 ∷ [])
-
-abbrev pub twoCells : List ℕ
-twoCells = two (free 4) (flood 2 1)
 
 pub record TheyDoNot (start stop : Call) : Type 0 where
   -- every premise of the demand

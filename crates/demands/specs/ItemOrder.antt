@@ -20,7 +20,7 @@ use Rattle.demands.specs.Demand2.{reached}
 pub record WholeRecord (r : List ℕ) : Type 0 where
   pub marked : recordMarked current r ≡ true
   pub few : itemCount r ≤ mostItems
-  pub size : length r ≡ recordSize + itemSize * itemCount r
+  pub size : length r ≡ recordSize + itemSize current * itemCount r
 
 -- every field but the last, the count of items
 abbrev pub fieldsOf : List ℕ → List ℕ

@@ -78,7 +78,8 @@ InEachSecond t cs identity content xs =
 
 pub record PrimaryRuns : Type 0 where
   -- an earthquake primary goes out from its start on, where it is not live yet and a place is free or all are dropped ..
-  pub starts : (t : List ℕ) → Bytes t → (k : ℕ) → k < cellCount t → (c : Call) → Accepted-on t c → Reaches c (cellIn t k) → let q = requestOf (c .req) in q .kind ≡ writeReplace → isPrimary q ≡ true
+  pub starts : (t : List ℕ) → Bytes t → (k : ℕ) → k < cellCount t → (c : Call) → Accepted-on t c → Reaches c (cellIn t k)
+      → let q = requestOf (c .req) in q .kind ≡ writeReplace → isPrimary q ≡ true
       → running (q .identifier) (q .serial) (cellIn t k .places) ≡ false → (concurrent q ≡ true → length (cellIn t k .places) < placesPerCell)
       → GoesOutIn (outcomeOn t c .table) k (q .identifier) (q .serial) (q .content)
   -- .. in every second of any calls that do not stop it ..

@@ -1,5 +1,9 @@
 pub mod Searching
-pub mod Walking
-pub mod WalkFacts
-pub mod ApplyLaws
+mod LentLaws
+mod Walking
+mod ReachedLaws
+mod WalkSteps
+mod WalkItems
+mod CallLaws
+mod GrantLaws
 pub mod Once

@@ -1,7 +1,7 @@
 -- The search among the items: those still to come decide, and where the search stands is how many it has looked at.
 -- And what names a cell: its keys say of an item what document 01 says.
 use mathlib.Core.Path.{_≡_, refl, sym, _∙_}
-use mathlib.Core.Bool.{Bool, true, false, cond, _||_}
+use mathlib.Core.Bool.{Bool, true, false, cond, _||_, or-false}
 use mathlib.Core.List.{List, [], _∷_}
 use Prim.Native.Nat.{ℕ, zero, suc, _+_, _^_, _<_, _≤_}
 use native.Mathlib.Nat.{zero-add}
@@ -15,6 +15,7 @@ use Rattle.rules.specs.Lists.{any, oneOf, upTo}
 use Rattle.rules.specs.Table.{Head}
 use Rattle.rules.specs.Record.{noArea, cellArea, trackingArea, emergencyArea}
 use Rattle.rules.specs.Reach.{names, reaches, lookedAt}
+use Rattle.rules.proofs.ListsLaws.{any-same, upTo-same}
 use Rattle.rules.proofs.KindAreaLaws.{area-by}
 use Rattle.engine.specs.Reach.{keysIn, namedBy, turnedKeys, namingIn, namingOf}
 use Rattle.engine.specs.declared.reach.Naming.{Naming}
@@ -30,17 +31,6 @@ pub record Searching (area : ℕ) (items : List ℕ) (h : Head) (by : ℕ → Bo
 pub record Searched (area : ℕ) (items : List ℕ) (h : Head) (hit : Bool) (k : ℕ) : Type 0 where
   pub reached : reaches area items h ≡ hit
   pub looked : lookedAt area items h ≡ k
-
-module _ (p q : ℕ → Bool) (same : (x : ℕ) → p x ≡ q x) where
-  any-same : (xs : List ℕ) → any p xs ≡ any q xs
-  unfolding any
-  any-same [] = refl
-  any-same (x ∷ xs) = rw (same x, any-same xs)
-
-  upTo-same : (xs : List ℕ) → upTo p xs ≡ upTo q xs
-  unfolding upTo
-  upTo-same [] = refl
-  upTo-same (x ∷ xs) = rw (same x, upTo-same xs)
 
 module _ (area : ℕ) (items : List ℕ) (h : Head) (by : ℕ → Bool) where
   -- without an area there are no items
@@ -83,10 +73,6 @@ module _ (area : ℕ) (items : List ℕ) (h : Head) (by : ℕ → Bool) where
         as-it-is false = refl
 
 -- ---- what names a cell
-
-pub or-false : (b : Bool) → b || false ≡ b
-or-false true = refl
-or-false false = refl
 
 -- the keys in use, compared one by one
 pub by-keys : (n x a b c d : ℕ)

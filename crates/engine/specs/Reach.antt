@@ -6,7 +6,7 @@ use Prim.Native.Nat.{ℕ}
 use lib.ListN.{take, getD}
 use Rattle.octets.specs.Turned.{turned}
 use Rattle.rules.specs.Lists.{oneOf}
-use Rattle.rules.specs.Identity.{trackingItem}
+use Rattle.rules.specs.Identity.{cellItem, trackingItem}
 use Rattle.rules.specs.Layout.{current}
 use Rattle.rules.specs.Table.{headOf, areasUsed, allAreas}
 use Rattle.rules.specs.Record.{Area, everywhere, inCells, inTrackingAreas, inEmergencyAreas, unknownArea, areaOf}
@@ -36,7 +36,7 @@ turnedKeys n keys =
 -- by the area's kind, out of the bytes of a head: its NR CGI, its tracking area as an item, its emergency areas in use
 abbrev pub namingIn : Area → List ℕ → Naming
 namingIn everywhere b = turnedKeys 0 []
-namingIn inCells b = turnedKeys 1 (headOf current b .identity ∷ [])
+namingIn inCells b = turnedKeys 1 (cellItem (headOf current b .identity) ∷ [])
 namingIn inTrackingAreas b = turnedKeys 1 (trackingItem (headOf current b .identity) (headOf current b .code) ∷ [])
 namingIn inEmergencyAreas b = turnedKeys (areasUsed current b) (allAreas current b)
 namingIn unknownArea b = turnedKeys 0 []

@@ -45,8 +45,7 @@ pub fn naming_of(cell: &[u8], area: u8) -> Naming
     ensures { λ r. ⌜ KeysOf area (take (headSize current) (now (cell .entry))) r ⌝ }
 {
     if area == CELLS {
-        let key = identity(cell);
-        return keyed(1, key.0, 0, 0, 0);
+        return keyed(1, identity(cell).cell_item(), 0, 0, 0);
     }
     if area == TRACKING_AREAS {
         return keyed(1, tracking(cell), 0, 0, 0);
@@ -66,8 +65,8 @@ pub fn naming_of(cell: &[u8], area: u8) -> Naming
 
 // Whether the item at an index is one of the keys in use.
 pub fn named(s: Naming, req: &[u8], at: usize) -> bool
-    requires { ⌜ at + itemSize ≤ length (now req) ⌝ }
-    ensures { λ r. ⌜ r ≡ namedBy s (be (gets (now (req .entry)) at itemSize)) ⌝ }
+    requires { ⌜ at + itemSize current ≤ length (now req) ⌝ }
+    ensures { λ r. ⌜ r ≡ namedBy s (be (gets (now (req .entry)) at (itemSize current))) ⌝ }
 {
     if s.keys == 0 {
         return false;

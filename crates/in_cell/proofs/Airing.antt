@@ -3,11 +3,11 @@
 use mathlib.Core.Path.{_≡_, sym, ap, ap₂, _∙_}
 use mathlib.Core.Bool.{Bool, true, false, not, _&&_}
 use mathlib.Core.List.{List, [], _∷_, flatMap}
-use Prim.Native.Nat.{ℕ, _-_, _*_, _≤_}
+use Prim.Native.Nat.{ℕ, _*_, _≤_}
 use native.Mathlib.Omega.{arith}
 use mir.Val.{boolByte}
 use lib.Dec.{eqb}
-use lib.ListN.{take, set}
+use lib.ListN.{take}
 use lib.Seq.{sets}
 use Rattle.rules.specs.Lists.{those}
 use Rattle.rules.specs.Layout.{current, headSize, rowSize}
@@ -20,7 +20,7 @@ use Rattle.rules.specs.declared.Broadcasts.{Broadcasts}
 use Rattle.rules.specs.declared.Place.{Place}
 use Rattle.rules.proofs.TestLaws.{by-test}
 use Rattle.rules.proofs.SecondLaws.{later-due}
-use Rattle.cell_read.specs.Places.{livePlaces, withPlaces, placeAt}
+use Rattle.cell_read.specs.Places.{withPlace, placeAt}
 use Rattle.in_cell.specs.Second.{endings, ToAir, Aired}
 
 endings-one : (p : Place) → endings (p ∷ []) ≡ boolByte (hasEnded p)
@@ -36,9 +36,10 @@ row-same : (i s t : ℕ) {i′ s′ t′ : ℕ} → i ≡ i′ → s ≡ s′ �
 row-same i s t a b d = rw (a, b, d)
 
 -- what was read of place k and of the head, and what was made of it
-module _ (c out : List ℕ) (k n : ℕ) (to : ToAir c out k n) (sent : Broadcasts) (wait : Seconds) (requested identity content : ℕ) (e-sent : sent .0 ≡ oneMore (placeAt c k .sent) .0) (e-wait : wait .0 ≡ oneLess (placeAt c k .period) .0)
-    (e-requested : requested ≡ placeAt c k .requested .0) (e-identity : identity ≡ headOf current (take (headSize current) c) .identity) (e-content : content ≡ placeAt c k .content)
-    (c′ out′ : List ℕ) (e-cell : c′ ≡ withPlaces c (set (livePlaces c) k (withCounts (placeAt c k) sent wait)))
+module _ (c out : List ℕ) (k n : ℕ) (to : ToAir c out k n) (sent : Broadcasts) (wait : Seconds) (requested identity content : ℕ)
+    (e-sent : sent .0 ≡ oneMore (placeAt c k .sent) .0) (e-wait : wait .0 ≡ oneLess (placeAt c k .period) .0) (e-requested : requested ≡ placeAt c k .requested .0)
+    (e-identity : identity ≡ headOf current (take (headSize current) c) .identity) (e-content : content ≡ placeAt c k .content)
+    (c′ out′ : List ℕ) (e-cell : c′ ≡ withPlace c k (withCounts (placeAt c k) sent wait))
     (e-out : out′ ≡ sets out ((rowSize current) * n) (rowBytes current (record { identity = identity; count = sent .0; content = content }))) where
   after : later (placeAt c k) ≡ withCounts (placeAt c k) sent wait
   after =

@@ -21,6 +21,8 @@ stepped-by q ps d m c out c′ out′ n e em s = rw (e, em) s
 pub rows-of-kind : (k j m : ℕ) → k ≡ j → rowsPerCell j ≡ m → rowsPerCell k ≡ m
 rows-of-kind k j m e em = ap rowsPerCell e ∙ em
 
-pub is-failure : (k : ℕ) → (k ≡ writeReplace → ⊥) → (k ≡ cancelOrKill → ⊥) → (k ≡ restartKind → ⊥) → (k ≡ oneSecond → ⊥) → (kindOf k ≡ unknownKind → ⊥) → k ≡ failureKind
+pub is-failure : (k : ℕ) → (k ≡ writeReplace → ⊥) → (k ≡ cancelOrKill → ⊥) → (k ≡ restartKind → ⊥) → (k ≡ oneSecond → ⊥)
+    → (kindOf k ≡ unknownKind → ⊥) → k ≡ failureKind
 is-failure k a b c d known =
-    kind-by (λ x. (x ≡ unknownKind → ⊥) → k ≡ failureKind) k (λ e _. absurd (a e)) (λ e _. absurd (b e)) (λ e _. absurd (c e)) (λ e _. e) (λ e _. absurd (d e)) (λ h. absurd (h refl)) known
+    kind-by (λ x. (x ≡ unknownKind → ⊥) → k ≡ failureKind) k
+    (λ e _. absurd (a e)) (λ e _. absurd (b e)) (λ e _. absurd (c e)) (λ e _. e) (λ e _. absurd (d e)) (λ h. absurd (h refl)) known

@@ -2,7 +2,9 @@ pub mod Passes
 pub mod Passing
 pub mod Closing
 pub mod Airing
+pub mod SecondByPlace
 pub mod Ticking
+pub mod TickTurns
 pub mod RowsLaws
 pub mod TextLaws
 pub mod StopLaws

@@ -9,7 +9,6 @@ use Rattle.octets.proofs.Once.{one-outcome}
 use Rattle.rules.specs.InCell.{Done}
 use Rattle.in_cell.specs.Step.{Stepped}
 use Rattle.in_cell.proofs.step.step_cell.Reads as step-cell
-use Rattle.in_cell.proofs.start.start_in_cell.Reads as start-in-cell
 use Rattle.in_cell.proofs.second.second_in_cell.Reads as second-in-cell
 
 stepped-once : {d : Done} {c out a x b y : List ℕ} {most m n : ℕ} → Stepped d c out a x most m → Stepped d c out b y most n
@@ -18,9 +17,6 @@ stepped-once p q i = (one-outcome (p .many) (q .many) i, one-outcome (p .cell) (
 
 pub step-cell-once : Settles {X = ℕ × List ℕ × List ℕ} step-cell.Learnt (λ κ r e. (r, now (e .0), now (e .1 .1 .1 .0)))
 step-cell-once κ args r s e f = stepped-once
-
-pub start-in-cell-once : Settles {X = ℕ × List ℕ × List ℕ} start-in-cell.Learnt (λ κ r e. (r, now (e .0), now (e .1 .1 .1 .0)))
-start-in-cell-once κ args r s e f = stepped-once
 
 pub second-in-cell-once : Settles {X = ℕ × List ℕ × List ℕ} second-in-cell.Learnt (λ κ r e. (r, now (e .0), now (e .1 .0)))
 second-in-cell-once κ args r s e f = stepped-once

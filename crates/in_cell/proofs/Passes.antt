@@ -28,7 +28,7 @@ use Rattle.in_cell.specs.Step.{Ready, Stepped}
 use Rattle.in_cell.specs.Second.{goingOn, endings, AllLater}
 
 -- a legal place has not ended
-pub legal-goes-on : (p : Place) → legalPlace current p ≡ true → hasEnded p ≡ false
+legal-goes-on : (p : Place) → legalPlace current p ≡ true → hasEnded p ≡ false
 unfolding hasEnded
 legal-goes-on p e =
     let l = legal-facts current p e in
@@ -52,7 +52,7 @@ later-fit p fit =
     (λ d. rw (later-due p d) (fit-counts p fit _ _ (omega (arith, oneMore-most (p .sent) (omega arith))) (omega arith)))
     (λ d. rw (later-waits p d) (fit-counts p fit _ _ sent (omega arith)))
 
-pub stays-or-ended : (p : Place) → legalPlace current p ≡ true → staysLive p ≡ not (hasEnded (later p))
+stays-or-ended : (p : Place) → legalPlace current p ≡ true → staysLive p ≡ not (hasEnded (later p))
 unfolding staysLive
 stays-or-ended p e =
     by-test (isDue p) (λ d. rw d) (λ d. rw (d, waits-goes-on p e d))

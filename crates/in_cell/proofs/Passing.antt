@@ -14,7 +14,7 @@ use Rattle.rules.specs.Layout.{current, headSize, placesPerCell, cellSize}
 use Rattle.rules.specs.declared.Place.{Place}
 use Rattle.rules.proofs.AllLaws.{All, none, more, all-append}
 use Rattle.rules.proofs.PlaceCodec.{FitPlace}
-use Rattle.cell_read.specs.Places.{livePlaces, withPlaces, Formed, noPlace, placeAt, without}
+use Rattle.cell_read.specs.Places.{livePlaces, withPlaces, withPlace, Formed, noPlace, placeAt, without}
 use Rattle.cell_read.proofs.PlacesLaws.{head-withPlaces, withPlaces-again, withPlaces-live, withPlaces-formed, live-few, live-fit}
 
 -- the cell c is c₀ with other places: k passed, and the rest
@@ -50,7 +50,7 @@ module _ {c₀ c : List ℕ} {k : ℕ} {passed rest : List Place} (w : Passing c
   pub pass-formed : Formed c
   pass-formed = rw (w .cell) (withPlaces-formed c₀ (w .size) (passed ++ rest) all-fit fits-in)
 
-  pub pass-live : livePlaces c ≡ passed ++ rest
+  pass-live : livePlaces c ≡ passed ++ rest
   pass-live = ap livePlaces (w .cell) ∙ withPlaces-live c₀ (w .size) (passed ++ rest) all-fit fits-in
 
   pub pass-many : length (livePlaces c) ≡ k + length rest
@@ -75,7 +75,7 @@ module _ {c₀ c : List ℕ} {k : ℕ} {passed rest : List Place} {p : Place} (w
   pub next-fit : FitPlace current p
   next-fit = fit-next (w .fit-rest) .0
 
-  pub next-changes : (q : Place) → FitPlace current q → (c′ : List ℕ) → c′ ≡ withPlaces c (set (livePlaces c) k q) → Passing c₀ c′ (k + 1) (passed ++ (q ∷ [])) rest
+  pub next-changes : (q : Place) → FitPlace current q → (c′ : List ℕ) → c′ ≡ withPlace c k q → Passing c₀ c′ (k + 1) (passed ++ (q ∷ [])) rest
   next-changes q fits c′ e =
       record {
         size = w .size;

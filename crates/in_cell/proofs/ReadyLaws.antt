@@ -8,13 +8,13 @@ use Rattle.octets.specs.Runs.{Bytes}
 use Rattle.rules.specs.Layout.{current, placeFields}
 use Rattle.rules.specs.Table.{placeNumbers, placeRuns, different}
 use Rattle.rules.proofs.AllLaws.{All, all-imply}
+use Rattle.rules.proofs.PlaceLaws.{Small}
 use Rattle.rules.proofs.PlacesCodec.{legal-places}
 use Rattle.rules.proofs.CellCodec.{legal-cell}
 use Rattle.rules.proofs.SoundPlaceLaws.{fits-at}
 use Rattle.cell_read.specs.Places.{livePlaces, Formed}
 use Rattle.cell_read.proofs.PlacesLaws.{formed-legal, live-fit}
 use Rattle.in_cell.specs.Step.{Ready}
-use Rattle.in_cell.proofs.TextLaws.{Small}
 
 module _ (c out : List ℕ) (most : ℕ) (ready : Ready c out most) where
   pub ready-formed : Bytes c → Formed c

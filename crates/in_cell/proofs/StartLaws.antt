@@ -21,9 +21,10 @@ use Rattle.rules.proofs.PlaceCodec.{FitPlace, length-placeBytes, place-again, p
 use Rattle.rules.proofs.PlacesCodec.{sound-place}
 use Rattle.cell_read.specs.Places.{livePlaces, withPlaces, Formed, FreeAt, OnePlace, indexOf}
 use Rattle.cell_read.proofs.PlacesLaws.{withPlaces-live, withPlaces-formed, withPlaces-again}
+use Rattle.cell_read.proofs.SeekLaws.{index-few}
 use Rattle.in_cell.specs.Step.{rowsBytes, Ready, Stepped, StartIn}
 use Rattle.in_cell.proofs.RowsLaws.{idle, told}
-use Rattle.in_cell.proofs.TextLaws.{index-most, index-running}
+use Rattle.in_cell.proofs.TextLaws.{index-running}
 use Rattle.in_cell.proofs.ReadyLaws.{ready-formed, ready-small}
 
 -- ---- the rule, test by test
@@ -101,7 +102,7 @@ module _ {c out new : List ℕ} {q : Request} {at : ℕ} {found : Bool} (b : Beg
 
     first : at ≡ length (livePlaces c)
     first =
-        let most : at ≤ length (livePlaces c) = rw (b .place) (index-most (textAsked q) (livePlaces c)) in
+        let most : at ≤ length (livePlaces c) = rw (b .place) (index-few (textAsked q) (livePlaces c)) in
         omega (arith, ltb-false at (length (livePlaces c)) (sym (b .hit) ∙ n))
 
     pub free-here : at < placesPerCell → FreeAt c at
@@ -132,7 +133,8 @@ module _ {c out new : List ℕ} {q : Request} {at : ℕ} {found : Bool} (b : Beg
       pub start-behind : at < placesPerCell → {c′ out′ : List ℕ} → c′ ≡ withPlaces c (livePlaces c ++ (placeOf current new ∷ [])) → out′ ≡ sets out 0 (rowsBytes c (reported 0))
           → Stepped (start q (livePlaces c)) c out c′ out′ 1 1
       start-behind room {c′} {out′} cell rows =
-          told _ c out (livePlaces c ++ (newPlace q ∷ [])) 0 (start-more q (livePlaces c) (b .input .starts) absent more (omega (arith, first))) c′ out′ (cell ∙ rw (new-again q new (b .input))) rows
+          let rule = start-more q (livePlaces c) (b .input .starts) absent more (omega (arith, first)) in
+          told _ c out (livePlaces c ++ (newPlace q ∷ [])) 0 rule c′ out′ (cell ∙ rw (new-again q new (b .input))) rows
 
       pub start-nowhere : placesPerCell ≤ at → Stepped (start q (livePlaces c)) c out c out 1 0
       start-nowhere full =

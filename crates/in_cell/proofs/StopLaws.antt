@@ -17,21 +17,22 @@ use Rattle.rules.specs.declared.Request.{Request}
 use Rattle.rules.proofs.ListsLaws.{all-those, none-made}
 use Rattle.rules.proofs.TestLaws.{by-test}
 use Rattle.rules.proofs.AllLaws.{All}
+use Rattle.rules.proofs.PlaceLaws.{Small}
 use Rattle.cell_read.specs.Places.{livePlaces, withPlaces, Formed, noPlace, placeAt, LiveAt, indexOf, without}
 use Rattle.cell_read.proofs.PlacesLaws.{live-at}
 use Rattle.in_cell.specs.Step.{rowsBytes, Stepped}
 use Rattle.in_cell.specs.Stop.{stopText}
 use Rattle.in_cell.proofs.RowsLaws.{idle, told}
-use Rattle.in_cell.proofs.TextLaws.{Small, index-running, index-left, index-made}
+use Rattle.in_cell.proofs.TextLaws.{index-running, index-left, index-made}
 
 -- ---- cancel
 
 module _ (text : ℕ) (ps : List Place) where
-  pub stop-found : ltb (indexOf text ps) (length ps) ≡ true → stopText text ps ≡ done (without (indexOf text ps) ps) (reported (getD ps (indexOf text ps) noPlace .sent .0))
+  stop-found : ltb (indexOf text ps) (length ps) ≡ true → stopText text ps ≡ done (without (indexOf text ps) ps) (reported (getD ps (indexOf text ps) noPlace .sent .0))
   unfolding stopText
   stop-found e = rw e
 
-  pub stop-absent : ltb (indexOf text ps) (length ps) ≡ false → stopText text ps ≡ done ps []
+  stop-absent : ltb (indexOf text ps) (length ps) ≡ false → stopText text ps ≡ done ps []
   unfolding stopText
   stop-absent e = rw e
 
@@ -48,7 +49,9 @@ module _ (q : Request) (ps : List Place) where
       let meets : ltb (indexOf text ps) (length ps) ≡ running (q .identifier) (q .serial) ps = index-running (q .identifier) (q .serial) small each in
       rw a
       (by-test (running (q .identifier) (q .serial) ps)
-      (λ r. rw (stop-found text ps (meets ∙ r), index-left (q .identifier) (q .serial) small each apart r, index-made (q .identifier) (q .serial) small (λ p. record { count = p .sent .0; content = 0 }) each apart r))
+      (λ r.
+      let made = index-made (q .identifier) (q .serial) small (λ p. record { count = p .sent .0; content = 0 }) each apart r in
+      rw (stop-found text ps (meets ∙ r), index-left (q .identifier) (q .serial) small each apart r, made))
       (λ r. rw (stop-absent text ps (meets ∙ r), all-those (isText (q .identifier) (q .serial)) ps r, none-made (isText (q .identifier) (q .serial)) (λ p. reported (p .sent .0)) ps r)))
 
 -- ---- failure
@@ -69,7 +72,8 @@ module _ (c out : List ℕ) (text at : ℕ) (found : Bool) (e : at ≡ indexOf t
   pub sought-live : Formed c → found ≡ true → LiveAt c at
   sought-live formed t = live-at c formed at (ltb-true at (length (livePlaces c)) (sym f ∙ t))
 
-  pub sought-stops : found ≡ true → (n : ℕ) → n ≡ placeAt c at .sent .0 → (c′ out′ : List ℕ) → c′ ≡ withPlaces c (without at (livePlaces c)) → out′ ≡ sets out 0 (rowsBytes c (reported n))
+  pub sought-stops : found ≡ true → (n : ℕ) → n ≡ placeAt c at .sent .0
+      → (c′ out′ : List ℕ) → c′ ≡ withPlaces c (without at (livePlaces c)) → out′ ≡ sets out 0 (rowsBytes c (reported n))
       → Stepped (stopText text (livePlaces c)) c out c′ out′ 1 1
   unfolding placeAt
   sought-stops t n en c′ out′ ec eo =

@@ -1,13 +1,13 @@
 -- The search for a text by one number: it ends at a place exactly if the text runs, and then all but the text are all but that place.
 -- Identifier and serial number are told apart where both are below 65536; no two places are alike, so behind the one found there is none.
-use mathlib.Core.Path.{_≡_, refl, sym, ap, _∙_}
+use mathlib.Core.Path.{_≡_, refl, ap, _∙_}
 use mathlib.Core.Bool.{true, false, cond, not, false≢true}
 use mathlib.Core.List.{List, [], _∷_, flatMap}
-use Prim.Native.Nat.{ℕ, suc, _+_, _*_, _<_, _≤_, compare·suc-suc}
+use Prim.Native.Nat.{ℕ, suc, _+_, _*_, _<_, compare·suc-suc}
 use native.Mathlib.Numerals.{add-one}
 use native.Mathlib.Omega.{arith}
-use borrow.Author.Tests.{eq-eqb, ne-eqb, lt-ltb}
-use lib.Dec.{eqb, ltb}
+use borrow.Author.Tests.{lt-ltb}
+use lib.Dec.{ltb}
 use lib.ListN.{length, getD}
 use Rattle.rules.specs.Lists.{any, those}
 use Rattle.rules.specs.Table.{isText, running, different}
@@ -16,31 +16,8 @@ use Rattle.rules.specs.declared.Place.{Place}
 use Rattle.rules.proofs.ListsLaws.{all-those, none-made}
 use Rattle.rules.proofs.TestLaws.{by-test, or-else}
 use Rattle.rules.proofs.AllLaws.{All, none, more}
-use Rattle.rules.proofs.PlaceLaws.{text-facts, facts-text, different-parts}
-use Rattle.cell_read.specs.Places.{noPlace, textOf, indexOf, without}
-
--- ---- one number for a text
-
-abbrev pub Small : Place → Type 0
-Small p = p .serial < 65536
-
--- one comparison tells both numbers
-pub same-text : (m s : ℕ) (p : Place) → s < 65536 → Small p → eqb (textOf p) (m * 65536 + s) ≡ isText m s p
-unfolding textOf
-same-text m s p hs hp =
-    by-test (isText m s p)
-    (λ t. let e = text-facts m s p t in rw t (eq-eqb (p .identifier * 65536 + p .serial) (m * 65536 + s) (rw (e .0, e .1))))
-    (λ t.
-    rw t
-    (ne-eqb (p .identifier * 65536 + p .serial) (m * 65536 + s)
-    (λ e. false≢true (sym t ∙ facts-text m s p (omega arith) (omega arith)))))
-
--- ---- where the search ends
-
-pub index-most : (text : ℕ) (ps : List Place) → indexOf text ps ≤ length ps
-unfolding indexOf
-index-most text [] = omega arith
-index-most text (p ∷ ps) = by-test (eqb (textOf p) text) (λ t. rw t (omega arith)) (λ t. rw t (omega (arith, index-most text ps)))
+use Rattle.rules.proofs.PlaceLaws.{Small, same-text, text-facts, different-parts}
+use Rattle.cell_read.specs.Places.{noPlace, indexOf, without}
 
 module _ (m s : ℕ) (small : s < 65536) where
   -- at a place exactly if the text runs

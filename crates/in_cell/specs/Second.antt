@@ -3,7 +3,7 @@ use mathlib.Core.Path.{_≡_}
 use mathlib.Core.Bool.{true, not}
 use mathlib.Core.List.{List, [], _∷_, map}
 use Prim.Native.Nat.{ℕ, _+_, _*_, _≤_, _<_}
-use lib.ListN.{length, set}
+use lib.ListN.{length}
 use lib.Seq.{sets}
 use Rattle.rules.specs.Lists.{those}
 use Rattle.rules.specs.Layout.{current, placesPerCell, rowSize}
@@ -12,7 +12,7 @@ use Rattle.rules.specs.InCell.{Told, isDue, later, hasEnded, second}
 use Rattle.rules.specs.Answer.{rowBytes}
 use Rattle.rules.specs.Reply.{rowBy}
 use Rattle.rules.specs.declared.Place.{Place}
-use Rattle.cell_read.specs.Places.{livePlaces, withPlaces, placeAt, LiveAt}
+use Rattle.cell_read.specs.Places.{livePlaces, withPlaces, withPlace, placeAt, LiveAt}
 use Rattle.in_cell.specs.Step.{rowsBytes}
 
 -- what the row of a broadcast says
@@ -36,7 +36,7 @@ pub record ToAir (c out : List ℕ) (k n : ℕ) : Type 0 where
 
 -- place k was broadcast, row n says so, and r is 1 if that was the last time
 pub record Aired (c out : List ℕ) (k n : ℕ) (c′ out′ : List ℕ) (r : ℕ) : Type 0 where
-  pub cell : c′ ≡ withPlaces c (set (livePlaces c) k (later (placeAt c k)))
+  pub cell : c′ ≡ withPlace c k (later (placeAt c k))
   pub row : out′ ≡ sets out ((rowSize current) * n) (rowBytes current (rowBy (cellOf current c) (toldOf (placeAt c k))))
   pub ended : r ≡ endings (later (placeAt c k) ∷ [])
   pub one : r ≤ 1

@@ -2,5 +2,5 @@
 mod cancel;
 mod rows;
 pub mod second;
-pub mod start;
+mod start;
 pub mod step;

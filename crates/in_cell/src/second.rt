@@ -1,10 +1,10 @@
 // One second in a cell, in place. A first pass changes every live place where it stands and counts those that have ended; only if there
 // are any does a second pass close up. No legal place has ended before the second, so the second pass can ask each place again.
 use answer::put_row;
+use cell_change::Counts;
 use cell_change::drop_place;
 use cell_change::set_counts;
 use cell_change::set_wait;
-use cell_read::Counts;
 use cell_read::content;
 use cell_read::identity;
 use cell_read::is_live;

@@ -1,7 +1,7 @@
 -- Items are judged all at once: joined, they are below their area's end exactly where each of them is, because every such end is a power of 2.
 -- One item at a time, by whether it is below; and then by the area.
-use mathlib.Core.Path.{_≡_, refl, _∙_}
-use mathlib.Core.Bool.{Bool, true, false, _&&_}
+use mathlib.Core.Path.{_≡_, refl, sym, _∙_}
+use mathlib.Core.Bool.{Bool, true, false, _&&_, and-assoc, and-true}
 use mathlib.Core.List.{List, [], _∷_}
 use Prim.Native.Nat.{ℕ, _^_}
 use native.Mathlib.Omega.{arith}
@@ -22,20 +22,13 @@ two-small k a x = go (ltb a (2 ^ k)) (ltb x (2 ^ k)) refl refl
     go true false e f = le-ltb (bitOr a x) (2 ^ k) (omega (arith, or-le-right a x, ltb-false x (2 ^ k) f))
     go false q e f = le-ltb (bitOr a x) (2 ^ k) (omega (arith, or-le-left a x, ltb-false a (2 ^ k) e))
 
-and-assoc : (a b c : Bool) → (a && b) && c ≡ a && (b && c)
-and-assoc true b c = refl
-and-assoc false b c = refl
-
-and-end : (a : Bool) → a ≡ a && true
-and-end true = refl
-and-end false = refl
-
 joined-small : (k a : ℕ) (xs : List ℕ) → ltb (joined a xs) (2 ^ k) ≡ ltb a (2 ^ k) && every (λ x. ltb x (2 ^ k)) xs
 unfolding joined every
-joined-small k a [] = and-end (ltb a (2 ^ k))
+joined-small k a [] = sym (and-true (ltb a (2 ^ k)))
 joined-small k a (x ∷ xs) =
     joined-small k (bitOr a x) xs ∙ rw (two-small k a x) (and-assoc (ltb a (2 ^ k)) (ltb x (2 ^ k)) (every (λ y. ltb y (2 ^ k)) xs))
 
 pub all-small : (area : ℕ) (xs : List ℕ) → ltb (joined 0 xs) (itemEnd area) ≡ every (λ x. ltb x (itemEnd area)) xs
 all-small area xs =
-    area-by (λ a. ltb (joined 0 xs) (itemEndIn a) ≡ every (λ x. ltb x (itemEndIn a)) xs) area (λ _. joined-small 24 0 xs) (λ _. joined-small 60 0 xs) (λ _. joined-small 48 0 xs) (λ _. joined-small 24 0 xs) (joined-small 24 0 xs)
+    area-by (λ a. ltb (joined 0 xs) (itemEndIn a) ≡ every (λ x. ltb x (itemEndIn a)) xs) area
+    (λ _. joined-small 24 0 xs) (λ _. joined-small 60 0 xs) (λ _. joined-small 48 0 xs) (λ _. joined-small 24 0 xs) (joined-small 24 0 xs)

@@ -1,3 +1,4 @@
-mod ReadLaws
+mod FieldReads
+mod TestOrder
 pub mod Items
 pub mod Once

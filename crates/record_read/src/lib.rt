@@ -104,8 +104,8 @@ fn cancel_zeros(req: &[u8]) -> bool
 // The first of the refusals 5, 6 and 7 that applies to the fields and n items. The items are joined first: with no loop between it and the
 // judge, a test for zero is made only for the kinds that ask for it.
 fn fields_judged(req: &[u8], n: usize) -> Verdict
-    requires { ⌜ recordSize + itemSize * n ≤ length (now req) ⌝ }
-    ensures { λ r. ⌜ r ≡ requestVerdict (longestAsked (now (req .entry))) (requestOf (now (req .entry))) (map be (pieces itemSize n (drop recordSize (now (req .entry))))) ⌝ }
+    requires { ⌜ recordSize + itemSize current * n ≤ length (now req) ⌝ }
+    ensures { λ r. ⌜ r ≡ requestVerdict (longestAsked (now (req .entry))) (requestOf (now (req .entry))) (map be (pieces (itemSize current) n (drop recordSize (now (req .entry))))) ⌝ }
 {
     let any = any64(req, RECORD, n);
     let fields = request(req);

@@ -1,4 +1,4 @@
--- Demand 2 on records, of what `write`, `read` and `item` promise: what was written reads back as it was given, and what was read is written as the same bytes, an older record as one of the writer's version.
+-- Demand 2 on records, of what `write`, `read` and `item` promise: what was written reads back as given; what was read is written as the same bytes.
 -- Each promise is an equation with a definition of the rules, so the round trips of those definitions carry over; an answer with number 0 is no refusal.
 use mathlib.Core.Path.{_≡_, sym, ap, _∙_}
 use mathlib.Core.Bool.{true}
@@ -32,7 +32,8 @@ pub types-fit : (q : Request) → q .kind < 256 → q .flags < 256 → q .area <
     → q .period .0 < 4294967296 → q .requested .0 < 65536 → q .sib < 256 → fitRequest q ≡ true
 unfolding fitRequest fits requestNumbers
 types-fit q k f a i s c p r b =
-    rw (lt-ltb (q .kind) 256 k, lt-ltb (q .flags) 256 f, lt-ltb (q .area) 256 a, lt-ltb (q .identifier) 65536 i, lt-ltb (q .serial) 65536 s, lt-ltb (q .content) 4294967296 c, lt-ltb (q .period .0) 4294967296 p, lt-ltb (q .requested .0) 65536 r, lt-ltb (q .sib) 256 b)
+    rw (lt-ltb (q .kind) 256 k, lt-ltb (q .flags) 256 f, lt-ltb (q .area) 256 a, lt-ltb (q .identifier) 65536 i)
+    (rw (lt-ltb (q .serial) 65536 s, lt-ltb (q .content) 4294967296 c, lt-ltb (q .period .0) 4294967296 p, lt-ltb (q .requested .0) 65536 r, lt-ltb (q .sib) 256 b))
 
 -- ---- written, then read
 
@@ -47,7 +48,7 @@ module _ (q : Request) (items buffer : List ℕ) (fit : fitRequest q ≡ true) (
   same-bytes : take (writingLength x) b ≡ take (written q items buffer .length) (written q items buffer .buffer)
   same-bytes = ap (λ (f : Filled). take (f .length) (f .buffer)) promise
 
-  pub written-size : writingLength x ≡ recordSize + itemSize * length items
+  pub written-size : writingLength x ≡ recordSize + itemSize current * length items
   written-size = same-length ∙ was-written .size
 
   -- whatever `read` answers of the bytes that were written: the request, and as many items

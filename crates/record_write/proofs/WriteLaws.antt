@@ -32,7 +32,7 @@ use Rattle.rules.proofs.RecordTrips.{AcceptedWriting, writing-accepted}
 
 module _ (w : ℕ) (b : List ℕ) (i : ℕ) (xs : List ℕ) (k : ℕ) where
   -- a turn of the loop that stores the numbers of xs from index i on
-  pub put-next : k < length xs → sets b i (flatMap (toBe w) (drop k xs)) ≡ sets (sets b i (toBe w (getD xs k 0))) (i + w) (flatMap (toBe w) (drop (k + 1) xs))
+  put-next : k < length xs → sets b i (flatMap (toBe w) (drop k xs)) ≡ sets (sets b i (toBe w (getD xs k 0))) (i + w) (flatMap (toBe w) (drop (k + 1) xs))
   unfolding flatMap
   put-next h =
       rw (drop-cons xs k 0 h, add-one)
@@ -101,11 +101,11 @@ module _ (q : Request) (items : List ℕ) (room : ℕ) where
     request-refused t = rw (write-chain q items room, le-leb (length items) mostItems few, ← e, t)
 
     module _ (t : v ≡ Accepted) where
-      pub room-refused : room < recordSize + itemSize * length items → Refused ShortBuffer ≡ writeVerdict q items room
-      room-refused h = rw (write-chain q items room, le-leb (length items) mostItems few, ← e, t, lt-leb (recordSize + itemSize * length items) room h)
+      pub room-refused : room < recordSize + itemSize current * length items → Refused ShortBuffer ≡ writeVerdict q items room
+      room-refused h = rw (write-chain q items room, le-leb (length items) mostItems few, ← e, t, lt-leb (recordSize + itemSize current * length items) room h)
 
-      pub writing-allowed : recordSize + itemSize * length items ≤ room → Accepted ≡ writeVerdict q items room
-      writing-allowed h = rw (write-chain q items room, le-leb (length items) mostItems few, ← e, t, le-leb (recordSize + itemSize * length items) room h)
+      pub writing-allowed : recordSize + itemSize current * length items ≤ room → Accepted ≡ writeVerdict q items room
+      writing-allowed h = rw (write-chain q items room, le-leb (length items) mostItems few, ← e, t, le-leb (recordSize + itemSize current * length items) room h)
 
 -- ---- what is written
 
@@ -113,23 +113,23 @@ fields-size : (q : Request) (n : ℕ) → length (bytesOf recordFields (requestN
 unfolding requestNumbers
 fields-size q n = length-written recordFields (requestNumbers q n) refl ∙ record-size
 
-bytes-size : (q : Request) (items : List ℕ) → length (recordBytes q items) ≡ recordSize + itemSize * length items
+bytes-size : (q : Request) (items : List ℕ) → length (recordBytes q items) ≡ recordSize + itemSize current * length items
 unfolding recordBytes
-bytes-size q items = rw (length-append, fields-size q (length items), length-flatMap itemSize (toBe itemSize) items (length-toBe itemSize))
+bytes-size q items = rw (length-append, fields-size q (length items), length-flatMap (itemSize current) (toBe (itemSize current)) items (length-toBe (itemSize current)))
 
 -- fields and items, one behind the other
-one-store : (q : Request) (items l : List ℕ) → sets (sets l 0 (bytesOf recordFields (requestNumbers q (length items)))) recordSize (flatMap (toBe itemSize) items) ≡ sets l 0 (recordBytes q items)
+one-store : (q : Request) (items l : List ℕ) → sets (sets l 0 (bytesOf recordFields (requestNumbers q (length items)))) recordSize (flatMap (toBe (itemSize current)) items) ≡ sets l 0 (recordBytes q items)
 unfolding recordBytes
 one-store q items l =
-    sets-run (bytesOf recordFields (requestNumbers q (length items))) (flatMap (toBe itemSize) items) l 0 recordSize (omega (arith, fields-size q (length items)))
+    sets-run (bytesOf recordFields (requestNumbers q (length items))) (flatMap (toBe (itemSize current)) items) l 0 recordSize (omega (arith, fields-size q (length items)))
 
 module _ (q : Request) (items buffer : List ℕ) {v : Verdict} (e : v ≡ writeVerdict q items (length buffer)) where
   pub allowed-writing : v ≡ Accepted → AcceptedWriting q items (length buffer)
   allowed-writing t = writing-accepted q items (length buffer) (sym e ∙ t)
 
   pub record-put : v ≡ Accepted → {a b : List ℕ} → a ≡ sets buffer 0 (bytesOf recordFields (requestNumbers q (length items)))
-      → b ≡ sets a recordSize (flatMap (toBe itemSize) items)
-      → filledBy (Written (recordSize + itemSize * length items)) b ≡ written q items buffer
+      → b ≡ sets a recordSize (flatMap (toBe (itemSize current)) items)
+      → filledBy (Written (recordSize + itemSize current * length items)) b ≡ written q items buffer
   unfolding written fill
   record-put t p₁ p₂ = rw (← e, t, bytes-size q items, p₂, p₁, one-store q items buffer)
 

@@ -8,7 +8,7 @@ ghost use Rattle.octets.specs.Fields.{bytesOf, offset};
 ghost use Rattle.octets.specs.Joined.{joined};
 ghost use Rattle.octets.specs.Numbers.{toBe};
 ghost use Rattle.rules.specs.Applied.{filledBy, written};
-ghost use Rattle.rules.specs.Layout.{itemSize, recordFields, recordMark, recordSize, recordVersion};
+ghost use Rattle.rules.specs.Layout.{current, itemSize, recordFields, recordMark, recordSize, recordVersion};
 ghost use Rattle.rules.specs.Lists.{zeros};
 ghost use Rattle.rules.specs.Record.{cancelZeros, identifierToSib, requestNumbers};
 ghost use Rattle.rules.specs.Refusals.{writeVerdict};
@@ -162,8 +162,8 @@ fn put_fields(buffer: &mut [u8], request: Request, n: u16)
 
 // Every item behind the fields. Two in a turn: of single ones the compiler makes vectors, whose bytes cost more to turn.
 fn put_items(buffer: &mut [u8], items: &[u64])
-    requires { ⌜ recordSize + itemSize * length (now items) ≤ length (now buffer) ⌝ }
-    ensures { λ _. ⌜ now (buffer .exit) ≡ sets (now (buffer .entry)) recordSize (flatMap (toBe itemSize) (now (items .entry))) ⌝ }
+    requires { ⌜ recordSize + itemSize current * length (now items) ≤ length (now buffer) ⌝ }
+    ensures { λ _. ⌜ now (buffer .exit) ≡ sets (now (buffer .entry)) recordSize (flatMap (toBe (itemSize current)) (now (items .entry))) ⌝ }
 {
     let mut at = RECORD;
     let mut k = 0;

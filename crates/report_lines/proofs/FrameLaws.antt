@@ -2,7 +2,7 @@
 use mathlib.Core.Path.{_≡_, refl}
 use mathlib.Core.Bool.{Bool, true, false}
 use mathlib.Core.List.{List, [], _∷_}
-use Prim.Native.Nat.{ℕ, _+_, _-_, _*_, _≤_, _<_}
+use Prim.Native.Nat.{ℕ, _+_, _*_, _≤_, _<_}
 use native.Mathlib.Omega.{arith}
 use lib.ListN.{length, getD, set}
 use lib.Seq.{sets}
@@ -10,7 +10,7 @@ use borrow.Author.Tests.{le-leb, lt-leb}
 use Rattle.octets.specs.Runs.{gets}
 use Rattle.octets.specs.Numbers.{be}
 use Rattle.octets.proofs.RunsLaws.{gets-eq, gets-run, getD-sets-after, length-gets, sets-run}
-use Rattle.rules.specs.Layout.{mostCells, recordSize, itemSize, mostItems}
+use Rattle.rules.specs.Layout.{current, mostCells, recordSize, itemSize, mostItems}
 use Rattle.rules.specs.Record.{itemCount}
 use Rattle.report_lines.specs.Framing.{countSize, cellsNamed, ownSize, frameOf}
 
@@ -34,7 +34,7 @@ pub own-many : (l : List ℕ) (n : ℕ) → recordSize ≤ length l → n ≡ it
 unfolding ownSize
 own-many l n h e k = rw (le-leb recordSize (length l) h, ← e, lt-leb n mostItems k)
 
-pub own-whole : (l : List ℕ) (n : ℕ) → recordSize ≤ length l → n ≡ itemCount l → n ≤ mostItems → recordSize + itemSize * n ≡ ownSize l
+pub own-whole : (l : List ℕ) (n : ℕ) → recordSize ≤ length l → n ≡ itemCount l → n ≤ mostItems → recordSize + itemSize current * n ≡ ownSize l
 unfolding ownSize
 own-whole l n h e k = rw (le-leb recordSize (length l) h, ← e, le-leb n mostItems k)
 

@@ -104,13 +104,13 @@ unfolding recordVerdict
 cut-refused l h = by-test (recordMarked current l) marked (λ (e : recordMarked current l ≡ false). rw e stops-3)
   where
     sized : Bool
-    sized = leb (itemCount l) mostItems && eqb (length l) (recordSize + itemSize * itemCount l)
+    sized = leb (itemCount l) mostItems && eqb (length l) (recordSize + itemSize current * itemCount l)
 
     whole : recordSize ≤ length l → sized ≡ true → ⊥
     whole k e =
-        let b = both (leb (itemCount l) mostItems) (eqb (length l) (recordSize + itemSize * itemCount l)) e in
-        let o : recordSize + itemSize * itemCount l ≡ ownSize l = own-whole l (itemCount l) k refl (leb-true (itemCount l) mostItems (b .0)) in
-        omega (arith, eqb-true (length l) (recordSize + itemSize * itemCount l) (b .1))
+        let b = both (leb (itemCount l) mostItems) (eqb (length l) (recordSize + itemSize current * itemCount l)) e in
+        let o : recordSize + itemSize current * itemCount l ≡ ownSize l = own-whole l (itemCount l) k refl (leb-true (itemCount l) mostItems (b .0)) in
+        omega (arith, eqb-true (length l) (recordSize + itemSize current * itemCount l) (b .1))
 
     marked : recordMarked current l ≡ true → stopsAt (verdictNumber (recordVerdict current l)) ≡ true
     marked e = by-test sized (λ (s : sized ≡ true). absurd (whole (long-marked l e) s)) (λ (s : sized ≡ false). rw (e, s) stops-4)

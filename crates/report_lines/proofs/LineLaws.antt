@@ -18,7 +18,7 @@ use Rattle.report_lines.proofs.TextLaws.{length-digits, said-then}
 
 -- ---- a number and what ends it
 
-pub digits-said : (base k n end : ℕ) (out : List ℕ) (at : ℕ)
+digits-said : (base k n end : ℕ) (out : List ℕ) (at : ℕ)
     → Said out at (digits base k n ++ (end ∷ [])) (set (sets out at (digits base k n)) (at + k) end) (at + k + 1)
 digits-said base k n end out at =
     let l : length (digits base k n) ≡ k = length-digits base k n in
@@ -81,7 +81,8 @@ pub answer-said : {out next last : List ℕ} {at mid end : ℕ} (answer : List �
     → Said out at (okText kind rows) next mid → Said next mid (rowsText rows (drop (answerSize current) answer)) last end → Said out at (answerText (answerOf current answer)) last end
 unfolding answerText answerOf
 answer-said answer kind rows k r a b =
-    let many : length (map (rowOf current) (rowRuns current answer)) ≡ rowCount current answer = length-map (rowRuns current answer) (rowOf current) ∙ length-pieces (rowSize current) (rowCount current answer) (drop (answerSize current) answer) in
+    let many : length (map (rowOf current) (rowRuns current answer)) ≡ rowCount current answer =
+    length-map (rowRuns current answer) (rowOf current) ∙ length-pieces (rowSize current) (rowCount current answer) (drop (answerSize current) answer) in
     rw (many, ← r, ← k) (said-then a b)
 
 -- ---- text still to come: what is stored now and the rest behind it are the whole

@@ -2,7 +2,7 @@
 -- Digits are stored from the back, so what is left to store is always the digits of what is left of the number.
 use mathlib.Core.Path.{_≡_, refl, _∙_}
 use mathlib.Core.List.{List, [], _∷_, _++_}
-use Prim.Native.Nat.{ℕ, zero, suc, _+_, _-_, _/_, _%_, _≤_, _<_}
+use Prim.Native.Nat.{ℕ, zero, suc, _+_, _/_, _%_, _≤_, _<_}
 use native.Mathlib.Nat.{add-zero}
 use native.Mathlib.Omega.{arith}
 use lib.ListN.{length, set, length-append}
@@ -29,7 +29,7 @@ length-digits base (suc k) n =
     rw (length-append, l) (omega arith)
 
 -- an element stored first, and then those before it
-pub sets-last : (xs l : List ℕ) (at k v : ℕ) → k ≡ at + length xs → sets (set l k v) at xs ≡ sets l at (xs ++ (v ∷ []))
+sets-last : (xs l : List ℕ) (at k v : ℕ) → k ≡ at + length xs → sets (set l k v) at xs ≡ sets l at (xs ++ (v ∷ []))
 sets-last [] l at k v e = rw (e, add-zero)
 sets-last (x ∷ xs) l at k v e =
     rw (set-comm l k at v x (λ (h : k ≡ at). omega arith)) (sets-last xs (set l at x) (suc at) k v (omega arith))

@@ -6,7 +6,7 @@ use lib.Dec.{leb}
 use lib.ListN.{length, take}
 use Rattle.octets.specs.Numbers.{be}
 use Rattle.rules.specs.Layout.{current, headSize, mostCells, recordSize, itemSize, mostItems}
-use Rattle.rules.specs.Record.{itemCount}
+use Rattle.rules.specs.Record.{writtenIn, itemCount}
 
 -- ---- the heads
 
@@ -26,7 +26,7 @@ headsEnd n = countSize + (headSize current) * n
 -- What a record takes by its own n. A head with n above 512 is refused as it stands, and a head that is cut off says no n.
 unfoldable pub ownSize : List ℕ → ℕ
 ownSize l =
-    cond (leb recordSize (length l) && leb (itemCount l) mostItems) (recordSize + itemSize * itemCount l) recordSize
+    cond (leb recordSize (length l) && leb (itemCount l) mostItems) (recordSize + itemSize (writtenIn l) * itemCount l) recordSize
 
 -- The record at the start of the bytes at hand: whole, or what is there where the input has ended; 0 where there is none to take yet.
 unfoldable pub frameOf : List ℕ → Bool → ℕ

@@ -35,7 +35,8 @@ awaits k speaks p l (piece ∷ pieces) few h w =
     let r = speaks false p (l ++ piece) pieces few (λ t. absurd (false≢true t)) (omega arith) in
     (r .0, reads w (r .1))
 
-by-step : (k : ℕ) → Speaks k → (ended : Bool) (p : Program) (l : List ℕ) (pieces : List (List ℕ)) → p .cells ≤ mostCells → (ended ≡ true → pieces ≡ []) → toDo ended l pieces < suc k
+by-step : (k : ℕ) → Speaks k → (ended : Bool) (p : Program) (l : List ℕ) (pieces : List (List ℕ))
+    → p .cells ≤ mostCells → (ended ≡ true → pieces ≡ []) → toDo ended l pieces < suc k
     → Does ended p (step ended p l) → (text : List ℕ) × Spoken ended p l pieces text
 by-step k speaks ended p l pieces few none h (stopped s w) = (step ended p l .said, stops s w)
 by-step k speaks true p l pieces few none h (waited e w) = absurd (true≢false e)

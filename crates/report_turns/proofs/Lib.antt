@@ -1,3 +1,4 @@
+pub mod RoomLaws
 pub mod ServeLaws
 pub mod RequestLaws
 pub mod TurnLaws
@@ -10,6 +11,7 @@ pub mod ServedLaws
 pub mod WaitLaws
 pub mod TurnedLaws
 pub mod AlwaysSpoken
+pub mod CalledLaws
 pub mod TalkReports
 pub mod ExampleHolds
 pub mod Once

@@ -26,7 +26,8 @@ served-once p q i = (
 pub serve-once : Settles {X = Turn × List ℕ × List ℕ × List ℕ} serve.Learnt (λ κ r e. (r, now (e .0), now (e .1 .1 .0), now (e .1 .1 .1 .0)))
 serve-once κ args r s e f p q = served-once (p .0) (q .0)
 
-turned-once : {s : Stand} {input t a out : List ℕ} {x y : Stand} {t₁ a₁ out₁ t₂ a₂ out₂ : List ℕ} → Turned s input t a out x t₁ a₁ out₁ → Turned s input t a out y t₂ a₂ out₂
+turned-once : {s : Stand} {input t a out : List ℕ} {x y : Stand} {t₁ a₁ out₁ t₂ a₂ out₂ : List ℕ}
+    → Turned s input t a out x t₁ a₁ out₁ → Turned s input t a out y t₂ a₂ out₂
     → _≡_ {A = Stand × List ℕ × List ℕ × List ℕ} (x, t₁, a₁, out₁) (y, t₂, a₂, out₂)
 turned-once {x} {y} p q i =
     let at : x .at ≡ y .at = one-outcome (p .text .ends) (q .text .ends) in

@@ -1,4 +1,4 @@
--- What `open` and its parts find at the front of the bytes at hand, and what they do with it, is the turn that the definition has.
+-- What `open_table` and its parts find at the front of the bytes at hand, and what they do with it, is the turn that the definition has.
 use mathlib.Core.Path.{_≡_, refl, sym, ap, _∙_}
 use mathlib.Core.Bool.{Bool, true, false, cond, _&&_, _||_}
 use mathlib.Core.List.{List, [], _++_}
@@ -54,7 +54,8 @@ none-short l h = rw (lt-leb countSize (length l) h)
 
 -- nothing is taken, and the buffers are as they were
 none-stepped : (p : Program) → p .cells ≡ 0 → (out out' : List ℕ) (at end : ℕ) (text : List ℕ) (waits stops : Bool) → Said out at text out' end → end ≤ at + mostText
-    → Stepped (record { said = text; program = p; taken = 0; waits = waits; stops = stops }) (p .table) (p .answer) out at (record { cells = 0; bytes = 0; end = end; waits = waits; stops = stops }) (p .table) (p .answer) out'
+    → Stepped (record { said = text; program = p; taken = 0; waits = waits; stops = stops }) (p .table) (p .answer) out at
+    (record { cells = 0; bytes = 0; end = end; waits = waits; stops = stops }) (p .table) (p .answer) out'
 none-stepped p none out out' at end text waits stops s m =
     record {
       cells = sym none;
@@ -93,7 +94,8 @@ module _ (n : ℕ) (heads t a buffer' out : List ℕ) (at : ℕ) (x : Writing) (
       rw (same, take-append-drop (tableSize n) t, ne-eqb (built heads (take (tableSize n) t) .number) 0 some, ← number, ← k) s
 
   pub made-stepped : (m : ℕ) → x ≡ Written m → length buffer' ≡ tableSize n → tableSize n ≤ length t → answerRoom n ≤ length a
-      → Stepped (opened n (programIn 0 t a) (built heads (take (tableSize n) t))) t a out at (record { cells = n; bytes = headsEnd n; end = at; waits = false; stops = false }) (buffer' ++ drop (tableSize n) t) a out
+      → Stepped (opened n (programIn 0 t a) (built heads (take (tableSize n) t))) t a out at
+      (record { cells = n; bytes = headsEnd n; end = at; waits = false; stops = false }) (buffer' ++ drop (tableSize n) t) a out
   unfolding opened programIn
   made-stepped m w long h room =
       let o : filledBy (Written m) buffer' ≡ built heads (take (tableSize n) t) = rw w at e in

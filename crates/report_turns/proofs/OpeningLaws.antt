@@ -17,6 +17,7 @@ use Rattle.report_lines.specs.Text.{noText}
 use Rattle.report_lines.specs.Framing.{countSize, cellsNamed, headsEnd}
 use Rattle.report_turns.specs.Report.{answerRoom, tableSize, openedSaid, report}
 use Rattle.report_turns.specs.Turns.{begun, headsThere, noCells, opened, opens}
+use Rattle.report_turns.proofs.RoomLaws.{room-within}
 use Rattle.report_turns.proofs.TurnLaws.{still, NoMore, inAll}
 
 take-replicate : {A : Type 0} (n m : ℕ) (x : A) → n ≤ m → take n (replicate m x) ≡ replicate n x
@@ -72,9 +73,10 @@ module _ (l more : List ℕ) where
       → inAll (opened n begun f) l more ≡ openedSaid n f (drop (headsEnd n) (l ++ more))
   unfolding opened inAll still openedSaid
   opened-said t f =
+      let room = room-within n (answerRoom mostCells) (cells-most l) (omega arith) in
       by-test (eqb (f .number) 0)
       (λ (e : eqb (f .number) 0 ≡ true).
-      rw (e, ne-eqb n 0 (λ (z : n ≡ 0). omega (arith, t .least)), take-replicate {A = ℕ} (answerRoom n) (answerRoom mostCells) 0 (omega (arith, cells-most l)), drop-append-le (headsEnd n) l more (t .within)))
+      rw (e, ne-eqb n 0 (λ (z : n ≡ 0). omega (arith, t .least)), take-replicate {A = ℕ} (answerRoom n) (answerRoom mostCells) 0 room, drop-append-le (headsEnd n) l more (t .within)))
       (λ (e : eqb (f .number) 0 ≡ false). rw (e, append-nil (noText (f .number))))
 
   heads-said : (ended : Bool) → headsThere l ≡ true → inAll (opens ended begun l) l more ≡ report (l ++ more)

@@ -3,7 +3,7 @@
 use mathlib.Core.Path.{_≡_, refl, ap, _∙_}
 use mathlib.Core.Bool.{true, false, cond}
 use mathlib.Core.List.{List, [], _++_}
-use Prim.Native.Nat.{ℕ, zero, suc, _+_, _-_, _≤_, _<_}
+use Prim.Native.Nat.{ℕ, zero, suc, _-_, _≤_, _<_}
 use native.Mathlib.Omega.{arith}
 use lib.Dec.{eqb, leb}
 use lib.ListN.{length, take, drop, length-drop}
@@ -31,7 +31,7 @@ less-left l k h g =
     let d : length (drop (frameOf l true) l) ≡ length l - frameOf l true = length-drop (frameOf l true) l in
     omega arith
 
-pub enough : (k m : ℕ) (t a l : List ℕ) → length l ≤ k → length l ≤ m → requestsSaid k t a l ≡ requestsSaid m t a l
+enough : (k m : ℕ) (t a l : List ℕ) → length l ≤ k → length l ≤ m → requestsSaid k t a l ≡ requestsSaid m t a l
 unfolding requestsSaid
 enough zero zero t a l h g = refl
 enough zero (suc m) t a l h g = rw (eq-eqb (length l) 0 (omega arith))
@@ -40,7 +40,8 @@ enough (suc k) (suc m) t a l h g =
     let o : Outcome = applied current t (take (frameOf l true) l) a in
     by-test (eqb (length l) 0) (λ (e : eqb (length l) 0 ≡ true). rw e)
     (λ (e : eqb (length l) 0 ≡ false).
-    rw (e, enough k m (o .table) (o .answer) (drop (frameOf l true) l) (less-left l k (eqb-false (length l) 0 e) h) (less-left l m (eqb-false (length l) 0 e) g)))
+    let some : length l ≡ 0 → ⊥ = eqb-false (length l) 0 e in
+    rw e (ap (λ (x : List ℕ). saidOf o ++ cond (stopsAt (o .number)) [] x) (enough k m _ _ _ (less-left l k some h) (less-left l m some g))))
 
 -- ---- the first request
 

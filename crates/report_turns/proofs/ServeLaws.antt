@@ -27,6 +27,7 @@ use Rattle.report_lines.specs.Text.{answerText, noText, saidOf, Said}
 use Rattle.report_lines.specs.Framing.{stopsAt}
 use Rattle.report_turns.specs.Report.{answerRoom}
 use Rattle.report_turns.specs.Serve.{Served}
+use Rattle.report_turns.proofs.RoomLaws.{room-of}
 
 -- ---- an answer lies in its buffer
 
@@ -57,7 +58,7 @@ module _ (t r a : List ℕ) (bt : Bytes t) (br : Bytes r) where
 
 -- so its rows have room in the text
 pub rows-fit : {n : ℕ} {told : List ℕ} → Lies n told → length told ≤ answerRoom mostCells → rowCount current (take n told) ≤ placesPerCell * mostCells
-rows-fit l k = omega (arith, l .most, l .whole, k)
+rows-fit l k = omega (arith, l .most, l .whole, k, room-of mostCells)
 
 -- ---- what is told
 

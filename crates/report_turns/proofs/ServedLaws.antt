@@ -1,6 +1,6 @@
--- What `request` does is the turn that the definition has once there is a table: a request served in the front parts of its buffers, or
+-- What `serve_next` does is the turn that the definition has once there is a table: a request served in the front parts of its buffers, or
 -- nothing yet.
-use mathlib.Core.Path.{_≡_, refl, sym}
+use mathlib.Core.Path.{_≡_, refl, sym, _∙_}
 use mathlib.Core.Bool.{Bool, true, false, cond, not}
 use mathlib.Core.List.{List, [], _++_}
 use Prim.Native.Nat.{ℕ, _+_, _≤_}
@@ -21,7 +21,9 @@ module _ (n : ℕ) (t a out : List ℕ) (at : ℕ) (th : tableSize n ≤ length 
   program = record { cells = n; table = take (tableSize n) t; answer = take (answerRoom n) a }
 
   -- nothing is taken: it waits, or stops at the end of the input
-  idle : (waits stops : Bool) → Stepped (record { said = []; program = program; taken = 0; waits = waits; stops = stops }) t a out at (record { cells = n; bytes = 0; end = at; waits = waits; stops = stops }) t a out
+  idle : (waits stops : Bool)
+      → Stepped (record { said = []; program = program; taken = 0; waits = waits; stops = stops }) t a out at
+      (record { cells = n; bytes = 0; end = at; waits = waits; stops = stops }) t a out
   idle waits stops =
       record {
         cells = refl;
@@ -45,12 +47,16 @@ module _ (n : ℕ) (t a out : List ℕ) (at : ℕ) (th : tableSize n ≤ length 
     unfolding serves programIn
     nothing-stepped z = rw (ne-eqb n 0 some, ← e, eq-eqb size 0 z) (idle-stepped ended)
 
-    pub request-stepped : (size ≡ 0 → ⊥) → (t' a' out' : List ℕ) (x : Turn) → Served (take (tableSize n) t) (take size l) (take (answerRoom n) a) out at t' a' out' x
-        → x .end ≤ at + mostText → length t' ≡ tableSize n → length a' ≡ answerRoom n
-        → Stepped (serves ended (programIn n t a) l) t a out at (record { cells = n; bytes = size; end = x .end; waits = false; stops = x .stops }) (t' ++ drop (tableSize n) t) (a' ++ drop (answerRoom n) a) out'
+    pub request-stepped : (size ≡ 0 → ⊥) → (room : ℕ) → room ≡ answerRoom n → (t' a' out' : List ℕ) (x : Turn)
+        → Served (take (tableSize n) t) (take size l) (take room a) out at t' a' out' x
+        → x .end ≤ at + mostText → length t' ≡ tableSize n → length a' ≡ room
+        → Stepped (serves ended (programIn n t a) l) t a out at (record { cells = n; bytes = size; end = x .end; waits = false; stops = x .stops })
+        (t' ++ drop (tableSize n) t) (a' ++ drop room a) out'
     unfolding serves served programIn
-    request-stepped z t' a' out' x s m tl al =
-        rw (ne-eqb n 0 some, ← e, ne-eqb size 0 z)
+    request-stepped z room k t' a' out' x s m tl al =
+        let s : Served (take (tableSize n) t) (take size l) (take (answerRoom n) a) out at t' a' out' x = rw k at s in
+        let al : length a' ≡ answerRoom n = al ∙ k in
+        rw (k, ne-eqb n 0 some, ← e, ne-eqb size 0 z)
         record {
           cells = refl;
           bytes = refl;

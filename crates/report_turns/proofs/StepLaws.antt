@@ -2,18 +2,17 @@
 use mathlib.Core.Path.{_≡_, refl, sym, _∙_}
 use mathlib.Core.Bool.{Bool, true, false, false≢true, cond, _||_}
 use mathlib.Core.List.{List, []}
-use Prim.Native.Nat.{ℕ, _*_, _≤_, _<_}
+use Prim.Native.Nat.{ℕ, _≤_, _<_}
 use native.Mathlib.Omega.{arith}
 use lib.Dec.{eqb}
-use lib.ListN.{take, drop}
+use lib.ListN.{take}
 use borrow.Author.Tests.{eqb-false}
-use Rattle.rules.specs.Layout.{current, headSize}
-use Rattle.rules.specs.Applied.{Filled, Outcome, built, applied}
+use Rattle.rules.specs.Layout.{current}
+use Rattle.rules.specs.Applied.{Filled, Outcome, applied}
 use Rattle.rules.proofs.TestLaws.{by-test}
 use Rattle.report_lines.specs.Text.{noText}
-use Rattle.report_lines.specs.Framing.{countSize, cellsNamed, frameOf, stopsAt}
-use Rattle.report_turns.specs.Report.{tableSize}
-use Rattle.report_turns.specs.Turns.{Program, Step, waiting, stopping, headsThere, noCells, opened, opens, served, serves, step}
+use Rattle.report_lines.specs.Framing.{cellsNamed, frameOf, stopsAt}
+use Rattle.report_turns.specs.Turns.{Program, Step, waiting, stopping, headsThere, noCells, opened, builtFrom, opens, served, serves, step}
 use Rattle.report_turns.proofs.OpeningLaws.{at-least}
 
 -- ---- what a step may do
@@ -40,7 +39,7 @@ module _ (p : Program) (l : List ℕ) where
   unfolding opens
   opens-does ended =
       by-test (headsThere l)
-      (λ (e : headsThere l ≡ true). rw e (opened-does ended (cellsNamed l) (built (take ((headSize current) * cellsNamed l) (drop countSize l)) (take (tableSize (cellsNamed l)) (p .table)))))
+      (λ (e : headsThere l ≡ true). rw e (opened-does ended (cellsNamed l) (builtFrom p l)))
       (λ (e : headsThere l ≡ false). rw e (none-does ended (ended || noCells l) (noText 9) (λ (t : ended ≡ true). rw t)))
 
   served-does : (ended : Bool) (size : ℕ) → (size ≡ 0 → ⊥) → (o : Outcome) → Does ended p (served (p .cells) size o)
@@ -82,7 +81,7 @@ opens-no : (ended : Bool) (p : Program) (l : List ℕ) → opens ended p l .prog
 unfolding opens
 opens-no ended p l =
     by-test (headsThere l)
-    (λ (e : headsThere l ≡ true). rw e (opened-no (cellsNamed l) (at-least l e) p (built (take ((headSize current) * cellsNamed l) (drop countSize l)) (take (tableSize (cellsNamed l)) (p .table)))))
+    (λ (e : headsThere l ≡ true). rw e (opened-no (cellsNamed l) (at-least l e) p (builtFrom p l)))
     (λ (e : headsThere l ≡ false). rw e (none (ended || noCells l)))
   where
     none : (b : Bool) → cond b (stopping (noText 9) p) (waiting p) .program .cells ≡ 0 → cond b (stopping (noText 9) p) (waiting p) .program ≡ p

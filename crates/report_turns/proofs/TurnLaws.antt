@@ -3,7 +3,7 @@
 use mathlib.Core.Path.{_≡_, refl, sym}
 use mathlib.Core.Bool.{Bool, true, false, true≢false, cond}
 use mathlib.Core.List.{List, [], _++_, append-nil}
-use Prim.Native.Nat.{ℕ, _+_, _-_, _≤_, _<_}
+use Prim.Native.Nat.{ℕ, _+_, _≤_, _<_}
 use native.Mathlib.Omega.{arith}
 use lib.Dec.{eqb, leb}
 use lib.ListN.{length, take, drop, length-append}
@@ -15,7 +15,7 @@ use Rattle.rules.proofs.TestLaws.{by-test}
 use Rattle.report_lines.specs.Framing.{ownSize, frameOf}
 use Rattle.report_lines.proofs.Framed.{frame-stays, record-stays}
 use Rattle.report_turns.specs.Report.{requestsSaid, report}
-use Rattle.report_turns.specs.Turns.{Program, begun, Step, served, serves, step}
+use Rattle.report_turns.specs.Turns.{Program, begun, Step, served, serves}
 use Rattle.report_turns.proofs.RequestLaws.{frame-some, said-none, said-first}
 
 -- what is still to be said of the bytes from here on: of all of them, or of the requests alone once there is a table
@@ -88,7 +88,9 @@ module _ (p : Program) (some : p .cells ≡ 0 → ⊥) (l more : List ℕ) where
   unfolding serves inAll still
   nothing-left true none e w =
       let f : frameOf l true ≡ 0 = eqb-true (frameOf l true) 0 e in
-      let z : length (l ++ more) ≡ 0 = rw (none refl, append-nil l) (by-test (leb (length l) 0) (λ (h : leb (length l) 0 ≡ true). omega (arith, leb-true (length l) 0 h)) (λ (h : leb (length l) 0 ≡ false). absurd (omega (arith, frame-some l (leb-false (length l) 0 h))))) in
+      let empty : length l ≡ 0 = by-test (leb (length l) 0) (λ (h : leb (length l) 0 ≡ true). omega (arith, leb-true (length l) 0 h))
+      (λ (h : leb (length l) 0 ≡ false). absurd (omega (arith, frame-some l (leb-false (length l) 0 h)))) in
+      let z : length (l ++ more) ≡ 0 = rw (none refl, append-nil l) empty in
       rw (e, ne-eqb (p .cells) 0 some) (sym (said-none (length (l ++ more)) (p .table) (p .answer) (l ++ more) z))
   nothing-left false none e w = absurd (true≢false (rw e at w))
 

@@ -2,20 +2,19 @@
 use mathlib.Core.Path.{_≡_, refl, sym, _∙_}
 use mathlib.Core.Bool.{Bool, true, false, cond, _||_}
 use mathlib.Core.List.{List, []}
-use Prim.Native.Nat.{ℕ, _+_, _-_, _*_, _≤_}
+use Prim.Native.Nat.{ℕ, _+_, _-_, _≤_}
 use native.Mathlib.Omega.{arith}
 use lib.Dec.{eqb, ltb}
-use lib.ListN.{length, take, drop, length-drop}
+use lib.ListN.{length, drop, length-drop}
 use lib.Seq.{length-take-le}
 use borrow.Author.Tests.{ne-eqb}
-use Rattle.rules.specs.Layout.{current, headSize, mostCells}
-use Rattle.rules.specs.Applied.{Filled, built}
+use Rattle.rules.specs.Layout.{mostCells}
+use Rattle.rules.specs.Applied.{Filled}
 use Rattle.rules.proofs.TestLaws.{by-test}
 use Rattle.report_lines.specs.Text.{noText}
-use Rattle.report_lines.specs.Framing.{countSize, cellsNamed, frameOf}
-use Rattle.report_turns.specs.Report.{tableSize}
+use Rattle.report_lines.specs.Framing.{cellsNamed, frameOf}
 use Rattle.report_turns.specs.Serve.{mostText}
-use Rattle.report_turns.specs.Turns.{Program, waiting, stopping, headsThere, noCells, opened, opens, served, serves, step}
+use Rattle.report_turns.specs.Turns.{Program, waiting, stopping, headsThere, noCells, opened, builtFrom, opens, served, serves, step}
 use Rattle.report_turns.specs.Buffers.{programIn, Stepped, heldIn, stepOf, Turned}
 use Rattle.report_turns.specs.declared.Stand.{Stand}
 use Rattle.report_turns.specs.declared.Took.{Took}
@@ -44,7 +43,7 @@ module _ (p : Program) (few : p .cells ≤ mostCells) (l : List ℕ) where
   unfolding opens
   opens-small ended =
       by-test (headsThere l)
-      (λ (e : headsThere l ≡ true). rw e (opened-small e (built (take ((headSize current) * cellsNamed l) (drop countSize l)) (take (tableSize (cellsNamed l)) (p .table)))))
+      (λ (e : headsThere l ≡ true). rw e (opened-small e (builtFrom p l)))
       (λ (e : headsThere l ≡ false). rw e (nothing-taken (ended || noCells l) (noText 9)))
 
   serves-within : (ended : Bool) → serves ended p l .taken ≤ length l

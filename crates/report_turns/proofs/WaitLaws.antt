@@ -5,21 +5,20 @@ use mathlib.Core.List.{List}
 use Prim.Native.Nat.{ℕ, _+_, _*_, _≤_, _<_}
 use native.Mathlib.Omega.{arith}
 use lib.Dec.{eqb, leb}
-use lib.ListN.{length, take, drop}
+use lib.ListN.{length}
 use borrow.Author.Tests.{eqb-true, eqb-false, le-leb, leb-true, leb-false}
-use Rattle.rules.specs.Layout.{current, headSize, mostCells, recordSize, itemSize, mostItems}
+use Rattle.rules.specs.Layout.{current, mostCells, recordSize, itemSize, mostItems}
 use Rattle.rules.specs.Record.{itemCount}
-use Rattle.rules.specs.Applied.{Filled, built}
+use Rattle.rules.specs.Applied.{Filled}
 use Rattle.rules.proofs.TestLaws.{by-test, both, neither}
 use Rattle.report_lines.specs.Framing.{countSize, cellsNamed, headsEnd, ownSize, frameOf}
 use Rattle.report_lines.proofs.Framed.{own-least}
-use Rattle.report_turns.specs.Report.{tableSize}
-use Rattle.report_turns.specs.Turns.{Program, headsThere, noCells, opened, opens, served, serves, step}
+use Rattle.report_turns.specs.Turns.{Program, headsThere, noCells, opened, builtFrom, opens, served, serves, step}
 use Rattle.report_turns.proofs.OpeningLaws.{cells-most}
 
 -- ---- a record
 
-own-most : (l : List ℕ) → ownSize l ≤ recordSize + itemSize * mostItems
+own-most : (l : List ℕ) → ownSize l ≤ recordSize + itemSize current * mostItems
 unfolding ownSize
 own-most l =
     by-test (leb recordSize (length l) && leb (itemCount l) mostItems)
@@ -68,7 +67,7 @@ opens-short : (ended : Bool) (p : Program) (l : List ℕ) → opens ended p l .w
 unfolding opens
 opens-short ended p l w =
     by-test (headsThere l)
-    (λ (e : headsThere l ≡ true). absurd (opened-goes (cellsNamed l) p (built (take ((headSize current) * cellsNamed l) (drop countSize l)) (take (tableSize (cellsNamed l)) (p .table))) (rw e at w)))
+    (λ (e : headsThere l ≡ true). absurd (opened-goes (cellsNamed l) p (builtFrom p l) (rw e at w)))
     (λ (e : headsThere l ≡ false). by-test (ended || noCells l)
     (λ (o : ended || noCells l ≡ true). absurd (false≢true (rw (e, o) at w)))
     (λ (o : ended || noCells l ≡ false). part-of-heads l e (neither ended (noCells l) o .1)))

@@ -4,14 +4,16 @@ use mathlib.Core.List.{List, [], _++_}
 use Prim.Native.Nat.{ℕ, zero, suc, _+_, _*_}
 use lib.Dec.{eqb, leb}
 use lib.ListN.{length, take, drop, replicate}
-use Rattle.rules.specs.Layout.{current, headerSize, cellSize, headSize, placesPerCell, answerSize, rowSize}
+use Rattle.rules.specs.Layout.{current, headerSize, cellSize, headSize}
+use Rattle.rules.specs.Record.{oneSecond}
+use Rattle.rules.specs.Answer.{roomFor}
 use Rattle.rules.specs.Applied.{Filled, built, applied}
 use Rattle.report_lines.specs.Text.{saidOf, noText}
 use Rattle.report_lines.specs.Framing.{countSize, cellsNamed, headsEnd, frameOf, stopsAt}
 
--- the largest answer that a table of n cells gives
+-- the largest answer that a table of n cells gives: one second's
 abbrev pub answerRoom : ℕ → ℕ
-answerRoom n = (answerSize current) + (rowSize current) * placesPerCell * n
+answerRoom n = roomFor current oneSecond n
 
 abbrev pub tableSize : ℕ → ℕ
 tableSize n = headerSize + cellSize current * n

@@ -62,10 +62,15 @@ opened n p f =
     })
     (stopping (noText (f .number)) p)
 
+-- what the builder makes of the heads at hand
+abbrev pub builtFrom : Program → List ℕ → Filled
+builtFrom p l =
+    let n = cellsNamed l in
+    built (take ((headSize current) * n) (drop countSize l)) (take (tableSize n) (p .table))
+
 unfoldable pub opens : Bool → Program → List ℕ → Step
 opens ended p l =
-    let n = cellsNamed l in
-    cond (headsThere l) (opened n p (built (take ((headSize current) * n) (drop countSize l)) (take (tableSize n) (p .table))))
+    cond (headsThere l) (opened (cellsNamed l) p (builtFrom p l))
     (cond (ended || noCells l) (stopping (noText 9) p) (waiting p))
 
 -- ---- a request
@@ -95,7 +100,8 @@ step ended p l = cond (eqb (p .cells) 0) (opens ended p l) (serves ended p l)
 
 -- turn after turn over the bytes at hand; where one waits, the next piece is read, or the input has ended: the texts, joined
 pub data Spoken : Bool → Program → List ℕ → List (List ℕ) → List ℕ → Type 0 where
-  stops : {ended : Bool} {p : Program} {l : List ℕ} {pieces : List (List ℕ)} → step ended p l .stops ≡ true → step ended p l .waits ≡ false → Spoken ended p l pieces (step ended p l .said)
+  stops : {ended : Bool} {p : Program} {l : List ℕ} {pieces : List (List ℕ)} → step ended p l .stops ≡ true → step ended p l .waits ≡ false
+      → Spoken ended p l pieces (step ended p l .said)
   goes : {ended : Bool} {p : Program} {l : List ℕ} {pieces : List (List ℕ)} {text : List ℕ} → step ended p l .stops ≡ false → step ended p l .waits ≡ false
       → Spoken ended (step ended p l .program) (drop (step ended p l .taken) l) pieces text → Spoken ended p l pieces (step ended p l .said ++ text)
   reads : {p : Program} {l piece : List ℕ} {pieces : List (List ℕ)} {text : List ℕ} → step false p l .waits ≡ true

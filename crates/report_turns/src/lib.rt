@@ -12,7 +12,7 @@ use rules::layout::PLACES;
 
 mod heads;
 mod requests;
-pub mod serve;
+mod serve;
 
 // Where the program stands in the buffers that it is lent: the bytes at hand in the input, the end of the text that is not yet
 // written, the cells of its table (0 before there is one), and what comes next: the text is written, more is read, or neither.

@@ -5,12 +5,11 @@ ghost use Rattle.report_turns.specs.Buffers.{ToTake, Stepped, programIn}
 ghost use Rattle.report_turns.specs.Turns.{serves};
 use crate::Took;
 use crate::serve::serve;
+use answer::room_for;
 use report_lines::frame::frame;
-use rules::layout::ANSWER;
+use rules::kind::ONE_SECOND;
 use rules::layout::CELL;
 use rules::layout::HEADER;
-use rules::layout::PLACES;
-use rules::layout::ROW;
 
 // What lies behind the parts that a table of so many cells asks for stays as it is.
 pub fn serve_next(
@@ -36,10 +35,11 @@ pub fn serve_next(
             stops: ended,
         };
     }
+    let room = room_for(ONE_SECOND, cells);
     let turn = serve(
         &mut table[..HEADER + CELL * cells],
         &held[..size],
-        &mut answer[..ANSWER + ROW * PLACES * cells],
+        &mut answer[..room],
         out,
         at,
     );

@@ -9,7 +9,7 @@ use lib.Dec.{eqb, leb}
 use lib.ListN.{length}
 use borrow.Author.Tests.{leb-true, eqb-true, not-true, le-leb, eq-eqb}
 use Rattle.octets.specs.Fields.{fieldOf}
-use Rattle.rules.specs.Layout.{Version, version1, version2, versionOf, markField, recordFields, recordSize, itemSize, recordMark, mostItems, longestPeriod}
+use Rattle.rules.specs.Layout.{current, Version, version1, version2, versionOf, markField, recordFields, recordSize, itemSize, recordMark, mostItems, longestPeriod}
 use Rattle.rules.specs.Record.{versionIn, takesVersion, longestAsked, requestOf, itemsOf, itemCount, zeroByte, recordMarked, kindAllows, areaFits, cancelsNothing}
 use Rattle.rules.specs.Refusals.{recordTests, requestVerdict, recordVerdict}
 use Rattle.rules.specs.declared.Verdict.the-variants.{Accepted}
@@ -23,7 +23,7 @@ pub record AcceptedRecord (v : Version) (r : List ℕ) : Type 0 where
   pub mark : fieldOf recordFields markField r ≡ recordMark
   pub version : takesVersion v (versionIn r) ≡ true
   pub few : itemCount r ≤ mostItems
-  pub size : length r ≡ recordSize + itemSize * itemCount r
+  pub size : length r ≡ recordSize + itemSize current * itemCount r
   pub zero : zeroByte r ≡ 0
   pub request : requestVerdict (longestAsked r) (requestOf r) (itemsOf r) ≡ Accepted
 
@@ -35,13 +35,13 @@ record-accepted v r e =
     let z = both (eqb (zeroByte r) 0) (kindAllows (requestOf r)) (f .0) in
     let m₂ = both (leb recordSize (length r) && eqb (fieldOf recordFields markField r) recordMark) (takesVersion v (versionIn r)) (h .0) in
     let m₁ = both (leb recordSize (length r)) (eqb (fieldOf recordFields markField r) recordMark) (m₂ .0) in
-    let l₁ = both (leb (itemCount r) mostItems) (eqb (length r) (recordSize + itemSize * itemCount r)) (h .1 .0) in
+    let l₁ = both (leb (itemCount r) mostItems) (eqb (length r) (recordSize + itemSize current * itemCount r)) (h .1 .0) in
     record {
       long = leb-true recordSize (length r) (m₁ .0);
       mark = eqb-true (fieldOf recordFields markField r) recordMark (m₁ .1);
       version = m₂ .1;
       few = leb-true (itemCount r) mostItems (l₁ .0);
-      size = eqb-true (length r) (recordSize + itemSize * itemCount r) (l₁ .1);
+      size = eqb-true (length r) (recordSize + itemSize current * itemCount r) (l₁ .1);
       zero = eqb-true (zeroByte r) 0 (z .0);
       request =
           accepted-request (longestAsked r) (requestOf r) (itemsOf r)

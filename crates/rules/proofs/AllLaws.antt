@@ -6,7 +6,7 @@ use mathlib.Core.List.{List, [], _∷_, _++_, map, flatMap}
 use Prim.Native.Nat.{ℕ, zero, suc, _+_, _*_, _-_, _≤_, _<_}
 use native.Mathlib.Nat.{mul-zero, mul-suc, add-comm}
 use native.Mathlib.Omega.{arith}
-use lib.ListN.{length, getD, set, take, drop, length-append, length-drop}
+use lib.ListN.{length, getD, drop, length-append, length-drop}
 use lib.Seq.{length-take-le, take-at, drop-at}
 use Rattle.octets.specs.Runs.{Bytes, pieces}
 use Rattle.octets.specs.Fields.{padded}
@@ -96,21 +96,6 @@ module _ {A : Type 0} {P : A → Type 0} where
   all-at (more p ps) zero d h = p
   all-at (more p ps) (suc k) d h = all-at ps k d (omega arith)
 
-  pub all-set : {xs : List A} → All P xs → (k : ℕ) {x : A} → P x → All P (set xs k x)
-  all-set none k q = none
-  all-set (more p ps) zero q = more q ps
-  all-set (more p ps) (suc k) q = more p (all-set ps k q)
-
   pub all-append : {xs ys : List A} → All P xs → All P ys → All P (xs ++ ys)
   all-append none qs = qs
   all-append (more p ps) qs = more p (all-append ps qs)
-
-  pub all-take : (k : ℕ) {xs : List A} → All P xs → All P (take k xs)
-  all-take zero ps = none
-  all-take (suc k) none = none
-  all-take (suc k) (more p ps) = more p (all-take k ps)
-
-  pub all-drop : (k : ℕ) {xs : List A} → All P xs → All P (drop k xs)
-  all-drop zero ps = ps
-  all-drop (suc k) none = none
-  all-drop (suc k) (more p ps) = all-drop k ps

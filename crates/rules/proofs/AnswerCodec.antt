@@ -57,7 +57,8 @@ module _ (v : Version) where
     pub answer-back : answerBytes v (answerOf v b) ≡ b
     unfolding answerBytes answerHead answerOf
     answer-back =
-        let head : bytesOf (answerFields v) (Numbers v (answerOf v b)) ≡ take (answerSize v) b = ap (bytesOf (answerFields v)) same-numbers ∙ rw (answer-size v) at (bytesOf-numbers (answerFields v) b bytes (omega (arith, answer-size v, facts .long))) in
+        let head : bytesOf (answerFields v) (Numbers v (answerOf v b)) ≡ take (answerSize v) b =
+        ap (bytesOf (answerFields v)) same-numbers ∙ rw (answer-size v) at (bytesOf-numbers (answerFields v) b bytes (omega (arith, answer-size v, facts .long))) in
         let rows : flatMap (rowBytes v) (answerOf v b .reply .rows) ≡ drop (answerSize v) b = rows-back in
         rw (head, rows) (take-append-drop (answerSize v) b)
       where

@@ -34,7 +34,7 @@ module _ (v : Version) where
   -- ---- a cell's bytes
 
   -- an unreached cell, decoded and encoded again, keeps its bytes
-  pub after-cell : (q : Request) (items c : List ℕ) → Bytes c → length c ≡ cellSize v → legalCell v c ≡ true
+  after-cell : (q : Request) (items c : List ℕ) → Bytes c → length c ≡ cellSize v → legalCell v c ≡ true
       → cellBytes v (stepCell q items (cellOf v c)) ≡ cellAfter v q items c
   unfolding cellAfter
   after-cell q items c b n l =
@@ -109,7 +109,11 @@ module _ (v : Version) where
     applied-header =
         let front : (cells : List Cell) → take headerSize (tableBytes v cells) ≡ headerBytes v (length cells) =
         λ cells. take-at (headerBytes v (length cells)) (flatMap (cellBytes v) cells) headerSize (length-headerBytes v (length cells)) in
-        ap (take headerSize) applied-table ∙ front (map (stepCell (requestOf r) (itemsOf r)) (cellsOf v t)) ∙ ap (headerBytes v) (stepped-count ∙ sym (length-cellsOf v t)) ∙ sym (front (cellsOf v t)) ∙ ap (take headerSize) (table-back v t bt (call .table))
+        ap (take headerSize) applied-table
+        ∙ front (map (stepCell (requestOf r) (itemsOf r)) (cellsOf v t))
+        ∙ ap (headerBytes v) (stepped-count ∙ sym (length-cellsOf v t))
+        ∙ sym (front (cellsOf v t))
+        ∙ ap (take headerSize) (table-back v t bt (call .table))
 
     pub applied-runs : cellRuns v (applied v t r a .table) ≡ map (cellAfter v (requestOf r) (itemsOf r)) (cellRuns v t)
     unfolding cellsOf

@@ -33,7 +33,7 @@ heads-accepted heads room e =
       enough = leb-true (headerSize + cellSize current * headCount heads) room (h .1 .0);
     }
 
-pub length-built : (heads : List ℕ) → length (tableBytes current (map emptyCell (headRuns heads))) ≡ headerSize + cellSize current * headCount heads
+length-built : (heads : List ℕ) → length (tableBytes current (map emptyCell (headRuns heads))) ≡ headerSize + cellSize current * headCount heads
 length-built heads =
     rw (length-tableBytes current (map emptyCell (headRuns heads)), length-map (headRuns heads) emptyCell, length-pieces (headSize current) (headCount heads) heads)
 
@@ -41,7 +41,7 @@ module _ (heads buffer : List ℕ) (b : Bytes heads) (e : built heads buffer .nu
   accepted : AcceptedHeads heads (length buffer)
   accepted = heads-accepted heads (length buffer) (built-accepted heads buffer e)
 
-  pub built-bytes : take (built heads buffer .length) (built heads buffer .buffer) ≡ tableBytes current (map emptyCell (headRuns heads))
+  built-bytes : take (built heads buffer .length) (built heads buffer .buffer) ≡ tableBytes current (map emptyCell (headRuns heads))
   unfolding built fill
   built-bytes =
       rw (built-accepted heads buffer e)

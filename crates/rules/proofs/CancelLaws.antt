@@ -3,7 +3,7 @@
 use mathlib.Core.Path.{_≡_, refl, ap}
 use mathlib.Core.Bool.{Bool, true, false, cond, false≢true}
 use mathlib.Core.List.{List, [], _∷_, flatMap}
-use Prim.Native.Nat.{ℕ, _+_, _≤_}
+use Prim.Native.Nat.{ℕ, _≤_}
 use native.Mathlib.Omega.{arith}
 use lib.ListN.{length}
 use Rattle.rules.specs.Lists.{any, those}
@@ -14,7 +14,7 @@ use Rattle.rules.specs.Sound.{soundPlace, soundPlaces}
 use Rattle.rules.specs.InCell.{Told, Done, reported, reportedIfLive, cancel, restart, failure}
 use Rattle.rules.specs.declared.Request.{Request}
 use Rattle.rules.specs.declared.Place.{Place}
-use Rattle.rules.proofs.ListsLaws.{every-cond, none-made, all-those, made-left}
+use Rattle.rules.proofs.ListsLaws.{every-cond, none-made, all-those}
 use Rattle.rules.proofs.TestLaws.{cond-either, by-test, or-else}
 use Rattle.rules.proofs.PlaceLaws.{text-facts, different-parts, keeps-cond}
 use Rattle.rules.proofs.SoundPlaceLaws.{none-sound, keeps-sound}
@@ -22,7 +22,7 @@ use Rattle.rules.proofs.SoundPlaceLaws.{none-sound, keeps-sound}
 module _ (v : Version) where
   -- ---- the places that are left
 
-  pub those-sound : (f : Place → Bool) (ps : List Place) → soundPlaces v ps ≡ true → soundPlaces v (those f ps) ≡ true
+  those-sound : (f : Place → Bool) (ps : List Place) → soundPlaces v ps ≡ true → soundPlaces v (those f ps) ≡ true
   unfolding those
   those-sound f = keeps-sound v _ (λ p. keeps-cond (f p) p p refl refl) (λ p s. every-cond (soundPlace v) (f p) p (λ e. s))
 
@@ -87,11 +87,6 @@ pub cancel-exact : (q : Request) (ps : List Place) → cancelAll q ≡ false →
     → (running (q .identifier) (q .serial) ps ≡ false → (cancel q ps .places ≡ ps) × (cancel q ps .rows ≡ []))
     × (running (q .identifier) (q .serial) ps ≡ true → length (cancel q ps .rows) ≡ 1)
 cancel-exact q ps a d = (cancel-absent q ps a, cancel-found q ps a d)
-
--- a row for each place that is gone
-pub cancel-count : (q : Request) (ps : List Place) → cancelAll q ≡ false → length (cancel q ps .rows) + length (cancel q ps .places) ≡ length ps
-unfolding cancel
-cancel-count q ps a = rw a (made-left (isText (q .identifier) (q .serial)) _ ps)
 
 pub cancel-few : (q : Request) (ps : List Place) → different ps ≡ true → length (cancel q ps .rows) ≤ 1
 unfolding cancel

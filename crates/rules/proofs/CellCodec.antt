@@ -60,7 +60,7 @@ module _ (v : Version) where
   unfolding cellBytes
   head-of-cellBytes c = take-at (headBytes v (c .head)) (placesBytes v (c .places)) (headSize v) (length-headBytes v (c .head))
 
-  pub places-of-cellBytes : (c : Cell) → drop (headSize v) (cellBytes v c) ≡ placesBytes v (c .places)
+  places-of-cellBytes : (c : Cell) → drop (headSize v) (cellBytes v c) ≡ placesBytes v (c .places)
   unfolding cellBytes
   places-of-cellBytes c = drop-at (headBytes v (c .head)) (placesBytes v (c .places)) (headSize v) (length-headBytes v (c .head))
 

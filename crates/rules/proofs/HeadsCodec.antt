@@ -53,7 +53,8 @@ heads-sound heads bytes e =
     let l = legal-heads heads e in
     let n : length (map emptyCell (headRuns heads)) ≡ headCount heads = length-map (headRuns heads) emptyCell ∙ length-pieces (headSize current) (headCount heads) heads in
     let runs = all-pieces (headSize current) (headCount heads) heads bytes (omega arith) in
-    let same : All (λ b. identityOfCell (emptyCell b) ≡ identityAt current b) (headRuns heads) = all-imply (λ b h. ap (λ x. headOf current x .identity) (sym (take-all (headSize current) b (omega (arith, h .1))))) runs in
+    let same : All (λ b. identityOfCell (emptyCell b) ≡ identityAt current b) (headRuns heads) =
+    all-imply (λ b h. ap (λ x. headOf current x .identity) (sym (take-all (headSize current) b (omega (arith, h .1))))) runs in
     cells-sound current (map emptyCell (headRuns heads))
     (record {
       some = omega (arith, l .some);

@@ -54,7 +54,7 @@ module _ (q : Request) (ps : List Place) where
 -- ---- by kind
 
 -- what holds of each rule's outcome holds of the cell's; an unknown kind changes nothing
-pub inCell-by : (P : Done → Type 0) (q : Request) (ps : List Place) → (q .kind ≡ writeReplace → P (start q ps)) → P (cancel q ps) → P (restart ps) → P (failure ps) → P (second ps) → P (done ps [])
+inCell-by : (P : Done → Type 0) (q : Request) (ps : List Place) → (q .kind ≡ writeReplace → P (start q ps)) → P (cancel q ps) → P (restart ps) → P (failure ps) → P (second ps) → P (done ps [])
     → P (inCell q ps)
 unfolding inCell
 inCell-by P q ps begins stops empties drops ages rest =

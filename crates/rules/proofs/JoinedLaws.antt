@@ -14,7 +14,7 @@ use Rattle.rules.proofs.AllLaws.{All, none, more}
 abbrev pub joined : List (List ℕ) → List ℕ
 joined ls = flatMap (λ l. l) ls
 
-pub joined-append : (ks ls : List (List ℕ)) → joined (ks ++ ls) ≡ joined ks ++ joined ls
+joined-append : (ks ls : List (List ℕ)) → joined (ks ++ ls) ≡ joined ks ++ joined ls
 unfolding flatMap
 joined-append [] ls = refl
 joined-append (k ∷ ks) ls = rw (joined-append ks ls, append-assoc)

@@ -9,7 +9,7 @@ use lib.Dec.{eqb, leb}
 use borrow.Author.Tests.{eqb-true, leb-true}
 use Rattle.rules.specs.Lists.{every, any, oneOf, zeros}
 use Rattle.rules.specs.Layout.{placesPerCell, emergencyEnd}
-use Rattle.rules.specs.Identity.{trackingItem}
+use Rattle.rules.specs.Identity.{cellItem, trackingItem}
 use Rattle.rules.specs.Table.{Head}
 use Rattle.rules.specs.Record.{writeReplace, cancelOrKill, restartKind, failureKind, oneSecond, Kind, aWriteReplace, aCancel, aRestart, aFailure, aSecond, unknownKind, kindOf, noArea, cellArea, trackingArea, emergencyArea, Area, everywhere, inCells, inTrackingAreas, inEmergencyAreas, unknownArea, areaOf, itemEndIn, itemEnd, anyArea, identifierToSib, allowed, allowedBy, kindAllows}
 use Rattle.rules.specs.Reach.{namesIn, names}
@@ -111,7 +111,7 @@ second-area q e k =
 -- ---- what an item names, by its area
 
 module _ (area : ℕ) (h : Head) (item : ℕ) where
-  pub names-cell : area ≡ cellArea → names area h item ≡ eqb item (h .identity)
+  pub names-cell : area ≡ cellArea → names area h item ≡ eqb item (cellItem (h .identity))
   unfolding names
   names-cell e = rw e
 

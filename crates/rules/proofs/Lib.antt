@@ -38,12 +38,14 @@ pub mod InCellLaws
 pub mod StepLaws
 pub mod AcceptedCallLaws
 pub mod AppliedLaws
+pub mod RowsSoundLaws
 pub mod AnsweredLaws
 pub mod BuiltLaws
 pub mod AppliedRuns
 pub mod OlderLaws
 pub mod ConvertedLaws
 pub mod VersionsLaws
+pub mod AlikeLaws
 pub mod ItemsLaws
 pub mod RowsLaws
 pub mod ZerosLaws

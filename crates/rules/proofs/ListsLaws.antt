@@ -8,7 +8,7 @@ use native.Mathlib.Omega.{arith}
 use lib.ListN.{length, getD, length-append, replicate}
 use borrow.Author.Tests.{eqb-true}
 use lib.Dec.{eqb}
-use Rattle.rules.specs.Lists.{every, any, those, zeros}
+use Rattle.rules.specs.Lists.{every, any, those, zeros, upTo}
 use Rattle.rules.proofs.TestLaws.{both, and-true, by-test, or-else, else-or, neither}
 
 -- ---- every
@@ -86,6 +86,18 @@ some-flatMap f g h (x ∷ xs) k p =
     by-test (g x)
     (λ t. some-append h (f x) (flatMap f xs) (k x t))
     (λ t. some-behind h (f x) (flatMap f xs) (some-flatMap f g h xs k (or-else (g x) (any g xs) p t)))
+
+-- the same of two tests that say the same of each
+module _ {A : Type 0} (p q : A → Bool) (same : (x : A) → p x ≡ q x) where
+  pub any-same : (xs : List A) → any p xs ≡ any q xs
+  unfolding any
+  any-same [] = refl
+  any-same (x ∷ xs) = rw (same x, any-same xs)
+
+  pub upTo-same : (xs : List A) → upTo p xs ≡ upTo q xs
+  unfolding upTo
+  upTo-same [] = refl
+  upTo-same (x ∷ xs) = rw (same x, upTo-same xs)
 
 -- ---- what f makes of each, where that is little
 

@@ -15,6 +15,7 @@ use Rattle.rules.proofs.CellIdentity.plmn.Reads as plmn
 use Rattle.rules.proofs.CellIdentity.part.Reads as part
 use Rattle.rules.proofs.CellIdentity.below.Reads as below
 use Rattle.rules.proofs.CellIdentity.next.Reads as next
+use Rattle.rules.proofs.CellIdentity.cell_item.Reads as cell-item
 use Rattle.rules.proofs.CellIdentity.tracking_item.Reads as tracking-item
 
 pub refusal-number-once : SettlesResult refusal-number.Learnt
@@ -52,6 +53,9 @@ below-once κ args r s e f = one-outcome
 
 pub next-once : SettlesResult next.Learnt
 next-once κ args r s e f p q = ap (λ (n : ℕ). record { 0 = n }) (one-outcome p q)
+
+pub cell-item-once : SettlesResult cell-item.Learnt
+cell-item-once κ args r s e f = one-outcome
 
 pub tracking-item-once : SettlesResult tracking-item.Learnt
 tracking-item-once κ args r s e f = one-outcome

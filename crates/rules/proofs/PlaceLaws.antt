@@ -81,7 +81,7 @@ same-text m s p hs hp =
     (λ t. rw t (ne-eqb (p .identifier * 65536 + p .serial) (m * 65536 + s) (λ e. false≢true (sym t ∙ facts-text m s p (omega arith) (omega arith)))))
 
 -- a place is as little alike to another as the other to it
-pub text-turned : (p r : Place) → isText (p .identifier) (p .serial) r ≡ false → isText (r .identifier) (r .serial) p ≡ false
+text-turned : (p r : Place) → isText (p .identifier) (p .serial) r ≡ false → isText (r .identifier) (r .serial) p ≡ false
 text-turned p r e =
     by-test (isText (r .identifier) (r .serial) p)
     (λ t. let h = text-facts (r .identifier) (r .serial) p t in cc (facts-text (p .identifier) (p .serial) r (sym (h .0)) (sym (h .1))))
@@ -126,7 +126,7 @@ module _ (f : Place → List Place) (k : Keeps f) where
   pub keeps-length : (ps : List Place) → length (flatMap f ps) ≤ length ps
   keeps-length = few-flatMap f (λ p. kept-few (k p))
 
-  pub keeps-absent : (m s : ℕ) (ps : List Place) → running m s ps ≡ false → running m s (flatMap f ps) ≡ false
+  keeps-absent : (m s : ℕ) (ps : List Place) → running m s ps ≡ false → running m s (flatMap f ps) ≡ false
   unfolding running
   keeps-absent m s ps = any-flatMap f (isText m s) (isText m s) ps (λ p. kept-other m s (k p))
 

@@ -76,7 +76,7 @@ module _ (v : Version) where
 
   module _ (bs : List (List ℕ)) (runs : All PlaceRun bs) where
     -- whatever their number
-    pub runs-back : liveFirst v bs ≡ true → padded (length bs) (freeBytes v) (map (placeBytes v) (placesOf v bs)) ≡ bs
+    runs-back : liveFirst v bs ≡ true → padded (length bs) (freeBytes v) (map (placeBytes v) (placesOf v bs)) ≡ bs
     runs-back e = refilled (live-first bs e) runs
 
     pub places-back : length bs ≡ placesPerCell → liveFirst v bs ≡ true → placesBytes v (placesOf v bs) ≡ flatMap (λ b. b) bs
@@ -139,7 +139,7 @@ module _ (v : Version) where
   sound-place p e = both (fits (placeFields v) (placeNumbers p)) (legalPlace v p) e
 
   -- sound places fit their fields, and each is legal
-  pub places-fit : (ps : List Place) → soundPlaces v ps ≡ true → All (FitPlace v) ps
+  places-fit : (ps : List Place) → soundPlaces v ps ≡ true → All (FitPlace v) ps
   places-fit ps e = all-imply (λ p q. sound-place p q .0) (all-every (soundPlace v) ps (places-facts v ps e .each))
 
   every-legal : (ps : List Place) → soundPlaces v ps ≡ true → every (legalPlace v) ps ≡ true

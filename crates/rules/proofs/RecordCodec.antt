@@ -14,7 +14,7 @@ use Rattle.octets.proofs.RunsLaws.{bytes-take, bytes-drop}
 use Rattle.octets.proofs.PiecesLaws.{length-pieces, pieces-flatMap}
 use Rattle.octets.proofs.NumbersLaws.{length-toBe, be-toBe, toBe-be}
 use Rattle.octets.proofs.FieldsLaws.{numbers-bytesOf, bytesOf-numbers, length-bytesOf}
-use Rattle.rules.specs.Layout.{markField, versionField, recordFields, recordSize, itemSize, recordMark, recordVersion}
+use Rattle.rules.specs.Layout.{current, markField, versionField, recordFields, recordSize, itemSize, recordMark, recordVersion}
 use Rattle.rules.specs.Record.{requestOf, requestNumbers, recordBytes, itemsOf, itemCount, zeroByte}
 use Rattle.rules.specs.declared.Request.{Request}
 use Rattle.rules.proofs.LayoutLaws.{record-size}
@@ -22,7 +22,7 @@ use Rattle.rules.proofs.AllLaws.{All, none, more}
 
 -- ---- a run of numbers of one width
 
-pub run-back : (w n : ℕ) (l : List ℕ) → Bytes l → length l ≡ w * n → flatMap (toBe w) (map be (pieces w n l)) ≡ l
+run-back : (w n : ℕ) (l : List ℕ) → Bytes l → length l ≡ w * n → flatMap (toBe w) (map be (pieces w n l)) ≡ l
 unfolding flatMap pieces
 run-back w zero [] b e = refl
 run-back w zero (x ∷ l) b e = absurd (omega arith)
@@ -44,7 +44,7 @@ run-again w xs a rest =
 pub length-itemsOf : (r : List ℕ) → length (itemsOf r) ≡ itemCount r
 unfolding itemsOf
 length-itemsOf r =
-    length-map (pieces itemSize (itemCount r) (drop recordSize r)) be ∙ length-pieces itemSize (itemCount r) (drop recordSize r)
+    length-map (pieces (itemSize current) (itemCount r) (drop recordSize r)) be ∙ length-pieces (itemSize current) (itemCount r) (drop recordSize r)
 
 -- ---- the head of a record
 
@@ -54,14 +54,14 @@ module _ (r : List ℕ) (mark : fieldOf recordFields markField r ≡ recordMark)
   numbers-back = rw (mark, version, zero)
 
   -- read, then written: the same bytes
-  pub record-back : Bytes r → length r ≡ recordSize + itemSize * itemCount r → recordBytes (requestOf r) (itemsOf r) ≡ r
+  pub record-back : Bytes r → length r ≡ recordSize + itemSize current * itemCount r → recordBytes (requestOf r) (itemsOf r) ≡ r
   unfolding recordBytes itemsOf
   record-back b e =
-      let n : length (map be (pieces itemSize (itemCount r) (drop recordSize r))) ≡ itemCount r = length-itemsOf r in
+      let n : length (map be (pieces (itemSize current) (itemCount r) (drop recordSize r))) ≡ itemCount r = length-itemsOf r in
       let head : bytesOf recordFields (requestNumbers (requestOf r) (itemCount r)) ≡ take recordSize r =
       ap (bytesOf recordFields) numbers-back ∙ rw record-size at (bytesOf-numbers recordFields r b (rw record-size (omega arith))) in
-      let items : flatMap (toBe itemSize) (map be (pieces itemSize (itemCount r) (drop recordSize r))) ≡ drop recordSize r =
-      run-back itemSize (itemCount r) (drop recordSize r) (bytes-drop recordSize r b) (rw length-drop (omega arith)) in
+      let items : flatMap (toBe (itemSize current)) (map be (pieces (itemSize current) (itemCount r) (drop recordSize r))) ≡ drop recordSize r =
+      run-back (itemSize current) (itemCount r) (drop recordSize r) (bytes-drop recordSize r b) (rw length-drop (omega arith)) in
       rw (n, head, items) (take-append-drop recordSize r)
 
 -- ---- written, then read
@@ -69,7 +69,7 @@ module _ (r : List ℕ) (mark : fieldOf recordFields markField r ≡ recordMark)
 module _ (q : Request) (items rest : List ℕ) (fit : Fit recordFields (requestNumbers q (length items))) where
   numbers-again : numbers recordFields (recordBytes q items ++ rest) ≡ requestNumbers q (length items)
   unfolding recordBytes
-  numbers-again = rw append-assoc (numbers-bytesOf recordFields (requestNumbers q (length items)) (flatMap (toBe itemSize) items ++ rest) fit)
+  numbers-again = rw append-assoc (numbers-bytesOf recordFields (requestNumbers q (length items)) (flatMap (toBe (itemSize current)) items ++ rest) fit)
 
   pub field-again : (k : ℕ) → fieldOf recordFields k (recordBytes q items ++ rest) ≡ getD (requestNumbers q (length items)) k 0
   unfolding fieldOf
@@ -83,9 +83,9 @@ module _ (q : Request) (items rest : List ℕ) (fit : Fit recordFields (requestN
   unfolding requestNumbers
   count-again = field-again 12
 
-  pub items-again : All (λ x. x < 256 ^ itemSize) items → itemsOf (recordBytes q items ++ rest) ≡ items
+  pub items-again : All (λ x. x < 256 ^ (itemSize current)) items → itemsOf (recordBytes q items ++ rest) ≡ items
   unfolding itemsOf recordBytes
   items-again a =
-      let cut : drop recordSize (bytesOf recordFields (requestNumbers q (length items)) ++ (flatMap (toBe itemSize) items ++ rest)) ≡ flatMap (toBe itemSize) items ++ rest =
-      drop-at (bytesOf recordFields (requestNumbers q (length items))) (flatMap (toBe itemSize) items ++ rest) recordSize (length-bytesOf recordFields (requestNumbers q (length items)) fit ∙ record-size) in
-      rw (count-again, append-assoc, cut) (run-again itemSize items a rest)
+      let cut : drop recordSize (bytesOf recordFields (requestNumbers q (length items)) ++ (flatMap (toBe (itemSize current)) items ++ rest)) ≡ flatMap (toBe (itemSize current)) items ++ rest =
+      drop-at (bytesOf recordFields (requestNumbers q (length items))) (flatMap (toBe (itemSize current)) items ++ rest) recordSize (length-bytesOf recordFields (requestNumbers q (length items)) fit ∙ record-size) in
+      rw (count-again, append-assoc, cut) (run-again (itemSize current) items a rest)

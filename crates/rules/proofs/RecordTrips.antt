@@ -42,7 +42,7 @@ item-end : (area : ℕ) → itemEnd area ≤ 2 ^ 60
 item-end area = area-by (λ a. itemEndIn a ≤ 2 ^ 60) area (λ _. omega arith) (λ _. omega arith) (λ _. omega arith) (λ _. omega arith) (omega arith)
 
 -- an item within its area's limit fits its 8 bytes
-items-fit : (longest : Seconds) (q : Request) (items : List ℕ) → withinLimits longest q items ≡ true → All (λ x. x < 256 ^ itemSize) items
+items-fit : (longest : Seconds) (q : Request) (items : List ℕ) → withinLimits longest q items ≡ true → All (λ x. x < 256 ^ (itemSize current)) items
 unfolding withinLimits
 items-fit longest q items e =
     let start : Bool = not (eqb (q .kind) writeReplace) || leb (q .period .0) (longest .0) && leb firstSib (q .sib) && leb (q .sib) lastSib in
@@ -52,7 +52,7 @@ items-fit longest q items e =
 pub record AcceptedWriting (q : Request) (items : List ℕ) (room : ℕ) : Type 0 where
   pub few : length items ≤ mostItems
   pub request : requestVerdict (longestPeriod current) q items ≡ Accepted
-  pub fits-in : recordSize + itemSize * length items ≤ room
+  pub fits-in : recordSize + itemSize current * length items ≤ room
 
 pub writing-accepted : (q : Request) (items : List ℕ) (room : ℕ) → writeVerdict q items room ≡ Accepted → AcceptedWriting q items room
 writing-accepted q items room e =
@@ -61,12 +61,12 @@ writing-accepted q items room e =
     record {
       few = leb-true (length items) mostItems (unless-accepted _ RecordLength (n .0));
       request = v .0;
-      fits-in = leb-true (recordSize + itemSize * length items) room (unless-accepted _ ShortBuffer (v .1));
+      fits-in = leb-true (recordSize + itemSize current * length items) room (unless-accepted _ ShortBuffer (v .1));
     }
 
 pub accepted-writing : (q : Request) (items : List ℕ) (room : ℕ) → AcceptedWriting q items room → writeVerdict q items room ≡ Accepted
 accepted-writing q items room a =
-    rw (write-chain q items room, le-leb _ _ (a .few), a .request, le-leb (recordSize + itemSize * length items) room (a .fits-in))
+    rw (write-chain q items room, le-leb _ _ (a .few), a .request, le-leb (recordSize + itemSize current * length items) room (a .fits-in))
 
 -- ---- written, then read
 
@@ -74,10 +74,10 @@ module _ (q : Request) (items : List ℕ) (fit : fitRequest q ≡ true) (few : l
   fit-head : Fit recordFields (requestNumbers q (length items))
   fit-head = fits-Fit recordFields (requestNumbers q (length items)) (fit-count q (length items) (omega arith) fit)
 
-  pub length-recordBytes : length (recordBytes q items) ≡ recordSize + itemSize * length items
+  pub length-recordBytes : length (recordBytes q items) ≡ recordSize + itemSize current * length items
   unfolding recordBytes
   length-recordBytes =
-      rw (length-append, length-bytesOf recordFields (requestNumbers q (length items)) fit-head, record-size, length-flatMap itemSize (toBe itemSize) items (length-toBe itemSize))
+      rw (length-append, length-bytesOf recordFields (requestNumbers q (length items)) fit-head, record-size, length-flatMap (itemSize current) (toBe (itemSize current)) items (length-toBe (itemSize current)))
 
   -- a field of the record, with nothing behind it
   own-field : (k : ℕ) → fieldOf recordFields k (recordBytes q items) ≡ getD (requestNumbers q (length items)) k 0

@@ -11,7 +11,7 @@ use Rattle.octets.specs.Numbers.{be, toBe}
 use Rattle.octets.specs.Fields.{numbers, fieldOf}
 use Rattle.octets.proofs.RunsLaws.{bytes-take, bytes-drop, bytes-append}
 use Rattle.octets.proofs.NumbersLaws.{length-toBe, be-toBe, toBe-be, bytes-toBe}
-use Rattle.rules.specs.Layout.{markField, recordFields, recordSize, itemSize, recordMark, recordVersion}
+use Rattle.rules.specs.Layout.{current, markField, recordFields, recordSize, itemSize, recordMark, recordVersion}
 use Rattle.rules.specs.Record.{versionIn, requestOf, recordBytes, itemsOf, itemCount, zeroByte, renewed}
 use Rattle.rules.proofs.RecordCodec.{record-back}
 
@@ -89,7 +89,7 @@ module _ (r : List ℕ) (long : recordSize ≤ length r) where
       rw (own, ← drop-drop 2 3 r, take-append-drop 2 (drop 3 r)) (take-append-drop 3 r)
 
   -- read, then written
-  pub record-renewed : Bytes r → fieldOf recordFields markField r ≡ recordMark → zeroByte r ≡ 0 → length r ≡ recordSize + itemSize * itemCount r
+  pub record-renewed : Bytes r → fieldOf recordFields markField r ≡ recordMark → zeroByte r ≡ 0 → length r ≡ recordSize + itemSize current * itemCount r
       → recordBytes (requestOf r) (itemsOf r) ≡ renewed r
   record-renewed b m z n =
       rw (request-renewed, items-renewed) at (record-back (renewed r) (mark-renewed ∙ m) version-renewed (zero-renewed ∙ z) (bytes-renewed b) (rw (length-renewed, count-renewed) n))

@@ -23,7 +23,7 @@ use Rattle.rules.proofs.AcceptedRecordLaws.{AcceptedRecord, record-acce
 use Rattle.rules.proofs.OutcomeLaws.{written-accepted, read-accepted}
 
 pub record WrittenRecord (q : Request) (items buffer : List ℕ) : Type 0 where
-  pub size : written q items buffer .length ≡ recordSize + itemSize * length items
+  pub size : written q items buffer .length ≡ recordSize + itemSize current * length items
   pub reads : readOf (take (written q items buffer .length) (written q items buffer .buffer))
       ≡ record { number = 0; request = q; items = length items }
   pub reads-items : itemsOf (take (written q items buffer .length) (written q items buffer .buffer)) ≡ items

@@ -32,7 +32,7 @@ unfolding above ascending
 above-ascending x [] e = refl
 above-ascending x (y ∷ ys) e = both (ltb x y) (above y ys) e .1
 
-pub cells-over : (x : ℕ) (cs : List Cell) → above x (map identityOfCell cs) ≡ true → All (λ c. x < identityOfCell c) cs
+cells-over : (x : ℕ) (cs : List Cell) → above x (map identityOfCell cs) ≡ true → All (λ c. x < identityOfCell c) cs
 unfolding above
 cells-over x [] e = none
 cells-over x (c ∷ cs) e =
@@ -76,7 +76,7 @@ rise-append k (more {x = w} {xs = ws} p ps) over e =
 
 module _ (f : Cell → List Row) (own : (c : Cell) → All (λ w. w .identity ≡ identityOfCell c) (f c)) where
   -- the rows of later cells have larger identities
-  pub rows-over : (x : ℕ) {cs : List Cell} → All (λ c. x < identityOfCell c) cs → All (λ w. x < w .identity) (flatMap f cs)
+  rows-over : (x : ℕ) {cs : List Cell} → All (λ c. x < identityOfCell c) cs → All (λ w. x < w .identity) (flatMap f cs)
   unfolding flatMap
   rows-over x none = none
   rows-over x (more {x = c} h hs) = all-append (all-imply (λ w s. rw s h) (own c)) (rows-over x hs)

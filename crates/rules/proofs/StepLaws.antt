@@ -68,7 +68,7 @@ module _ (q : Request) (items : List ℕ) where
   -- ---- sound cells stay sound
 
   module _ (v : Version) (fit : fitRequest q ≡ true) (allowed : requestVerdict (longestPeriod v) q items ≡ Accepted) where
-    pub step-sound : (c : Cell) → soundCell v c ≡ true → soundCell v (stepCell q items c) ≡ true
+    step-sound : (c : Cell) → soundCell v c ≡ true → soundCell v (stepCell q items c) ≡ true
     unfolding stepCell soundCell
     step-sound c s =
         let h = both (soundHead v (c .head)) (soundPlaces v (c .places)) s in

@@ -58,7 +58,8 @@ module _ (v : Version) where
     pub table-back : tableBytes v (cellsOf v t) ≡ t
     unfolding tableBytes cellsOf
     table-back =
-        let each : flatMap (λ c. cellBytes v (cellOf v c)) (cellRuns v t) ≡ flatMap (λ c. c) (cellRuns v t) = flatMap-all (λ c. cellBytes v (cellOf v c)) (λ c. c) (all-imply (λ c h. cell-back v c (h .0) (h .1) (h .2)) table-cells) in
+        let each : flatMap (λ c. cellBytes v (cellOf v c)) (cellRuns v t) ≡ flatMap (λ c. c) (cellRuns v t) =
+        flatMap-all (λ c. cellBytes v (cellOf v c)) (λ c. c) (all-imply (λ c h. cell-back v c (h .0) (h .1) (h .2)) table-cells) in
         rw (length-cellsOf t, header-back, flatMap-map (cellBytes v) (cellOf v) (cellRuns v t), each, pieces-flat (cellSize v) (cellCount t) (drop headerSize t) behind) (take-append-drop headerSize t)
 
     pub table-sound : soundCells v (cellsOf v t) ≡ true
@@ -84,7 +85,7 @@ module _ (v : Version) where
   unfolding tableBytes
   length-tableBytes cells = rw (length-append, length-headerBytes (length cells), length-flatMap (cellSize v) (cellBytes v) cells (length-cellBytes v))
 
-  pub cells-of-tableBytes : (cells : List Cell) → drop headerSize (tableBytes v cells) ≡ flatMap (cellBytes v) cells
+  cells-of-tableBytes : (cells : List Cell) → drop headerSize (tableBytes v cells) ≡ flatMap (cellBytes v) cells
   unfolding tableBytes
   cells-of-tableBytes cells = drop-at (headerBytes v (length cells)) (flatMap (cellBytes v) cells) headerSize (length-headerBytes (length cells))
 

@@ -59,12 +59,12 @@ all-held (t ∷ ts) e =
 -- ---- verdicts that others are part of
 
 pub write-chain : (q : Request) (items : List ℕ) (room : ℕ)
-    → writeVerdict q items room ≡ refuseUnless (fewItems (length items)) RecordLength then requestVerdict (longestPeriod current) q items then refuseUnless (fitsIn (recordSize + itemSize * length items) room) ShortBuffer
+    → writeVerdict q items room ≡ refuseUnless (fewItems (length items)) RecordLength then requestVerdict (longestPeriod current) q items then refuseUnless (fitsIn (recordSize + itemSize current * length items) room) ShortBuffer
 unfolding writeVerdict requestVerdict
 write-chain q items room =
     let few = test (fewItems (length items)) RecordLength in
     let asked = requestTests true (longestPeriod current) q items in
-    first-last (few ∷ asked) (fitsIn (recordSize + itemSize * length items) room) ShortBuffer
+    first-last (few ∷ asked) (fitsIn (recordSize + itemSize current * length items) room) ShortBuffer
     ∙ then-assoc (refuseUnless (fewItems (length items)) RecordLength) (firstOf asked) _
 
 pub apply-chain : (v : Version) (t r : List ℕ) (room : ℕ)

@@ -1,22 +1,19 @@
--- A record does the same in a unit of any version and in today's, if both take its version or neither does; and renewed it does what it did, if its own version knows its period.
--- Of a record's tests only two depend on a version: whether its own is taken, and the longest period. The cells that two units decode are the same.
-use mathlib.Core.Path.{_≡_, refl, sym, ap, _∙_}
+-- A record renewed does what it did, if its own version knows its period; and what a unit accepts says a version that it takes, and a period that this version knows.
+-- A renewed record has the same fields and items, and only the limit of its period is another.
+use mathlib.Core.Path.{_≡_, refl}
 use mathlib.Core.Bool.{true, false, false≢true, _&&_}
-use mathlib.Core.List.{List, map}
+use mathlib.Core.List.{List}
 use Prim.Native.Nat.{ℕ, _+_, _≤_, _<_}
 use native.Mathlib.Omega.{arith}
 use lib.Dec.{eqb, leb}
 use lib.ListN.{length, take, drop, getD, length-append, length-take, length-drop}
 use borrow.Author.Tests.{leb-true, leb-false, le-leb, lt-leb, eqb-true}
-use Rattle.octets.specs.Runs.{Bytes}
 use Rattle.octets.proofs.NumbersLaws.{length-toBe}
 use Rattle.rules.specs.Lists.{zeros, oneOf}
-use Rattle.rules.specs.Layout.{Version, version1, version2, versionNumber, versionOf, current, longestPeriod, recordSize, recordVersion}
-use Rattle.rules.specs.Table.{cellCount, tableBytes}
+use Rattle.rules.specs.Layout.{Version, versionNumber, versionOf, current, longestPeriod, recordSize, recordVersion}
 use Rattle.rules.specs.Record.{Kind, requestOf, itemsOf, versionIn, takesVersion, recordMarked, renewed, longestAsked, allowed, allowedBy, kindAllows, withinLimits}
-use Rattle.rules.specs.Answer.{Answer, rowBytes, answerHead, answerBytes, roomFor}
-use Rattle.rules.specs.Refusals.{_then_, fitsIn, tableVerdict, requestVerdict, recordVerdict, applyVerdict}
-use Rattle.rules.specs.Applied.{converted, stepCell, answered, outcome, applied}
+use Rattle.rules.specs.Refusals.{_then_, tableVerdict, requestVerdict, recordVerdict}
+use Rattle.rules.specs.Applied.{outcome, applied}
 use Rattle.rules.specs.declared.Request.{Request}
 use Rattle.rules.specs.declared.Seconds.{Seconds}
 use Rattle.rules.specs.declared.Refusal.{Refusal}
@@ -30,16 +27,7 @@ use Rattle.rules.proofs.KindAreaLaws.{kind-by}
 use Rattle.rules.proofs.VerdictLaws.{request-accepted, apply-chain}
 use Rattle.rules.proofs.AcceptedRecordLaws.{record-accepted}
 use Rattle.rules.proofs.LayoutLaws.{number-most, longest-most}
-use Rattle.rules.proofs.AppliedLaws.{applied-table, applied-cells, applied-legal}
-use Rattle.rules.proofs.ConvertedLaws.{converted-by, converted-cells, converted-legal, converted-count, bytes-converted}
 use Rattle.rules.proofs.RenewedLaws.{request-renewed, mark-renewed, version-renewed, zero-renewed, count-renewed, items-renewed, length-renewed}
-
--- ---- the same record in both units
-
--- both take its version, or neither does
-pub verdict-alike : (v : Version) (r : List ℕ) → takesVersion current (versionIn r) ≡ takesVersion v (versionIn r) → recordVerdict current r ≡ recordVerdict v r
-unfolding recordVerdict recordMarked
-verdict-alike v r h = rw h
 
 -- ---- a record and its renewed form
 
@@ -89,7 +77,7 @@ module _ (r : List ℕ) (taken : takesVersion current (versionIn r) ≡ true) (k
       (λ e. let long = leb-true recordSize (length r) e in rw (apply-chain current t (renewed r) (length a), apply-chain current t r (length a), long-verdict long, request-renewed r long, items-renewed r long))
       (λ s. rw (apply-chain current t (renewed r) (length a), apply-chain current t r (length a), short-refused current r s, short-refused current (renewed r) (short-renewed r s)) (refused-alike (tableVerdict current t) RecordMark _ _ _ _ t a))
 
--- ---- what version 1 accepts
+-- ---- what a unit accepts
 
 -- the k-th of the fields that a row of the table of kinds has as zero
 zero-field : (q : Request) (flags areas zero : List ℕ) → allowed q flags areas zero ≡ true → (k : ℕ) → k < length zero → getD zero k 0 ≡ 0
@@ -124,50 +112,3 @@ pub still-taken : (v : Version) (n : ℕ) → takesVersion v n ≡ true → take
 still-taken v n e =
     let h = both (leb 1 n) (leb n (versionNumber v)) e in
     and-true (leb 1 n) (leb n (versionNumber current)) (h .0) (le-leb n (versionNumber current) (omega (arith, leb-true n (versionNumber v) (h .1), number-most v)))
-
--- ---- any call on a converted table
-
--- a unit of a version and today's get the same record, each with a buffer of its own: both have the room that they ask for, or neither has
-module _ (v : Version) (t : List ℕ) (bytes : Bytes t) (legal : tableVerdict v t ≡ Accepted) (r : List ℕ) where
-  -- what is told does not depend on the version
-  pub answered-alike : answered current (converted t) r ≡ answered v t r
-  answered-alike = rw (converted-cells v t legal bytes)
-
-  module _ (a b : List ℕ) (taken : takesVersion current (versionIn r) ≡ takesVersion v (versionIn r))
-      (room : fitsIn (roomFor current (requestOf r .kind) (cellCount t)) (length b) ≡ fitsIn (roomFor v (requestOf r .kind) (cellCount t)) (length a)) where
-    pub apply-alike : applyVerdict current (converted t) r (length b) ≡ applyVerdict v t r (length a)
-    apply-alike =
-        rw (apply-chain current (converted t) r (length b), apply-chain v t r (length a), legal, converted-legal v t legal bytes, verdict-alike v r taken, converted-count v t legal bytes, room)
-
-    pub number-alike : applied current (converted t) r b .number ≡ applied v t r a .number
-    unfolding applied outcome
-    number-alike = rw apply-alike (same (applyVerdict v t r (length a)))
-      where
-        same : (w : Verdict) → outcome current w (requestOf r) (itemsOf r) (converted t) b .number ≡ outcome v w (requestOf r) (itemsOf r) t a .number
-        same Accepted = refl
-        same (Refused x) = refl
-
-    -- accepted or refused: the table that the older unit leaves, converted
-    pub table-alike : Bytes r → applied current (converted t) r b .table ≡ converted (applied v t r a .table)
-    unfolding applied outcome
-    table-alike br = go (applyVerdict v t r (length a)) refl
-      where
-        go : (w : Verdict) → applyVerdict v t r (length a) ≡ w → applied current (converted t) r b .table ≡ converted (applied v t r a .table)
-        go (Refused x) e = rw (apply-alike, e)
-        go Accepted e =
-            applied-table current (converted t) r b (bytes-converted v t legal bytes) br (apply-alike ∙ e)
-            ∙ ap (λ cs. tableBytes current (map (stepCell (requestOf r) (itemsOf r)) cs)) (converted-cells v t legal bytes)
-            ∙ sym (ap (tableBytes current) (applied-cells v t r a bytes br e))
-            ∙ sym (converted-by v (applied v t r a .table) (applied-legal v t r a bytes br e))
-
--- ---- document 02, 3/13, left the answer as it was: these two hold as long as its layout is the same in every version
-
-pub answer-stays : (v : Version) (w : Answer) → answerBytes v w ≡ answerBytes current w
-unfolding answerBytes answerHead rowBytes
-answer-stays version1 w = refl
-answer-stays version2 w = refl
-
-pub room-stays : (v : Version) (kind cells : ℕ) → roomFor v kind cells ≡ roomFor current kind cells
-unfolding roomFor
-room-stays version1 kind cells = refl
-room-stays version2 kind cells = refl

@@ -43,7 +43,7 @@ unfolding be zeros every
 be-zero [] = refl
 be-zero (b ∷ bs) = sum-zero b (256 ^ length bs) (be bs) (pow-pos256 (length bs)) ∙ rw (be-zero bs)
 
-pub zeros-append : (us vs : List ℕ) → zeros (us ++ vs) ≡ zeros us && zeros vs
+zeros-append : (us vs : List ℕ) → zeros (us ++ vs) ≡ zeros us && zeros vs
 unfolding zeros every
 zeros-append [] vs = refl
 zeros-append (u ∷ us) vs = rw (zeros-append us vs, and-assoc)

@@ -9,7 +9,7 @@ use Rattle.octets.specs.Runs.{gets}
 use Rattle.octets.specs.Numbers.{be}
 use Rattle.rules.specs.Layout.{Version, current, recordSize, itemSize}
 use Rattle.rules.specs.Table.{Cell, headOf, cellOf, cellBytes, cellsOf, tableBytes, ownVersion}
-use Rattle.rules.specs.Record.{requestOf, itemCount, itemsOf, recordBytes}
+use Rattle.rules.specs.Record.{requestOf, writtenIn, itemCount, itemsOf, recordBytes}
 use Rattle.rules.specs.Reach.{reaches}
 use Rattle.rules.specs.InCell.{inCell}
 use Rattle.rules.specs.Reply.{replyOf}
@@ -92,7 +92,7 @@ readBy (Unread x) = record { number = numberOf x; request = noRequest; items = 0
 -- the k-th item as a number, 0 where the record ends before it
 unfoldable pub itemAt : List ℕ → ℕ → ℕ
 itemAt r k =
-    cond (leb (recordSize + itemSize * (k + 1)) (length r)) (be (gets r (recordSize + itemSize * k) itemSize)) 0
+    cond (leb (recordSize + itemSize (writtenIn r) * (k + 1)) (length r)) (be (gets r (recordSize + itemSize (writtenIn r) * k) (itemSize (writtenIn r)))) 0
 
 -- ---- a request is applied
 

@@ -2,7 +2,7 @@
 use mathlib.Core.Path.{_≡_}
 use mathlib.Core.List.{List, [], _∷_, _++_}
 use Prim.Native.Nat.{ℕ, _/_, _%_, _*_, _-_}
-use lib.ListN.{length, replicate}
+use lib.ListN.{length, drop, replicate}
 use Rattle.rules.specs.Layout.{current}
 use Rattle.rules.specs.Applied.{Outcome, applied}
 
@@ -123,3 +123,12 @@ lastOf t r (s ∷ ss) = lastOf (applied current t r blank .table) s ss
 abbrev pub AllHold : List Sample → Type 0
 AllHold [] = Unit {0}
 AllHold (s ∷ ss) = (lastOf (s .before) (s .first) (s .more) ≡ s .gives) × AllHold ss
+
+-- requests one after the other in the same two buffers, each accepted: what it is told stands over what the answer before left
+abbrev pub AllServed : List ℕ → List ℕ → List (List ℕ) → List (List ℕ × List ℕ) → Type 0
+AllServed t a [] [] = Unit {0}
+AllServed t a [] (x ∷ xs) = ⊥
+AllServed t a (r ∷ rs) [] = ⊥
+AllServed t a (r ∷ rs) (x ∷ xs) =
+    let told = x .1 ++ drop (length (x .1)) a in
+    (applied current t r a ≡ record { number = 0; length = length (x .1); table = x .0; answer = told }) × AllServed (x .0) told rs xs

@@ -33,6 +33,10 @@ unfoldable pub identityAnswer : ℕ → ℕ → MadeIdentity
 identityAnswer plmn part =
     cond (ltb plmn plmnEnd && ltb part partEnd) (Identity (record { 0 = identityOf plmn part })) TooLarge
 
+-- the item that names the cell
+abbrev pub cellItem : ℕ → ℕ
+cellItem identity = identity
+
 -- "PLMN x 2^24 + code": the item that names the tracking area of a cell
 abbrev pub trackingItem : ℕ → ℕ → ℕ
 trackingItem identity code = plmnOf identity * codeEnd + code

@@ -1,4 +1,5 @@
 -- Every width, size, limit and mark of documents 01 and 02, once. A layout is the list of its fields' widths, in order; offsets follow from it.
+-- Beside each layout its fields have names, counted from 0.
 use mathlib.Core.Bool.{Bool, cond, _&&_}
 use mathlib.Core.List.{List, [], _∷_}
 use Prim.Native.Nat.{ℕ, _+_, _*_, _^_}
@@ -194,8 +195,9 @@ countInRecord = 12
 abbrev pub recordSize : ℕ
 recordSize = 26
 
-abbrev pub itemSize : ℕ
-itemSize = 8
+-- an item, by the version of its record: no version has given it another size yet
+abbrev pub itemSize : Version → ℕ
+itemSize v = 8
 
 -- "PWR"
 abbrev pub recordMark : ℕ

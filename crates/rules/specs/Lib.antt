@@ -14,3 +14,4 @@ pub mod Sound
 pub mod ByHand
 pub mod Samples
 pub mod ChangeSamples
+pub mod CallSamples

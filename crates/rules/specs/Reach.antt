@@ -4,14 +4,14 @@ use mathlib.Core.List.{List}
 use Prim.Native.Nat.{ℕ}
 use lib.Dec.{eqb}
 use Rattle.rules.specs.Lists.{any, oneOf, upTo}
-use Rattle.rules.specs.Identity.{trackingItem}
+use Rattle.rules.specs.Identity.{cellItem, trackingItem}
 use Rattle.rules.specs.Table.{Head}
 use Rattle.rules.specs.Record.{noArea, Area, everywhere, inCells, inTrackingAreas, inEmergencyAreas, unknownArea, areaOf}
 
 -- an item names a cell by its NR CGI; by its PLMN and code; by one of its emergency areas in use
 abbrev pub namesIn : Area → Head → ℕ → Bool
 namesIn everywhere h item = false
-namesIn inCells h item = eqb item (h .identity)
+namesIn inCells h item = eqb item (cellItem (h .identity))
 namesIn inTrackingAreas h item = eqb item (trackingItem (h .identity) (h .code))
 namesIn inEmergencyAreas h item = oneOf item (h .areas)
 namesIn unknownArea h item = false

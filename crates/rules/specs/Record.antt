@@ -8,7 +8,7 @@ use Rattle.octets.specs.Runs.{pieces}
 use Rattle.octets.specs.Numbers.{be, toBe}
 use Rattle.octets.specs.Fields.{bytesOf, fieldOf}
 use Rattle.rules.specs.Lists.{every, zeros, oneOf}
-use Rattle.rules.specs.Layout.{Version, versionNumber, versionOf, longestPeriod, kindInRecord, flagsInRecord, areaInRecord, identifierInRecord, serialInRecord, contentInRecord, periodInRecord, requestedInRecord, sibInRecord, zeroInRecord, countInRecord, versionField, markField, recordFields, recordSize, itemSize, recordMark, recordVersion, firstSib, lastSib, primarySib, cellEnd, trackingEnd, emergencyEnd}
+use Rattle.rules.specs.Layout.{Version, current, versionNumber, versionOf, longestPeriod, kindInRecord, flagsInRecord, areaInRecord, identifierInRecord, serialInRecord, contentInRecord, periodInRecord, requestedInRecord, sibInRecord, zeroInRecord, countInRecord, versionField, markField, recordFields, recordSize, itemSize, recordMark, recordVersion, firstSib, lastSib, primarySib, cellEnd, trackingEnd, emergencyEnd}
 use Rattle.rules.specs.declared.Seconds.{Seconds}
 use Rattle.rules.specs.declared.Request.{Request}
 
@@ -113,8 +113,16 @@ zeroByte r = fieldOf recordFields zeroInRecord r
 abbrev pub itemCount : List ℕ → ℕ
 itemCount r = fieldOf recordFields countInRecord r
 
+-- the number of a record's version
+abbrev pub versionIn : List ℕ → ℕ
+versionIn r = fieldOf recordFields versionField r
+
+-- the version that a record is written in
+abbrev pub writtenIn : List ℕ → Version
+writtenIn r = versionOf (versionIn r)
+
 unfoldable pub itemsOf : List ℕ → List ℕ
-itemsOf r = map be (pieces itemSize (itemCount r) (drop recordSize r))
+itemsOf r = map be (pieces (itemSize (writtenIn r)) (itemCount r) (drop recordSize r))
 
 unfoldable pub requestNumbers : Request → ℕ → List ℕ
 requestNumbers q n =
@@ -134,11 +142,7 @@ requestNumbers q n =
     ∷ []
 
 unfoldable pub recordBytes : Request → List ℕ → List ℕ
-recordBytes q items = bytesOf recordFields (requestNumbers q (length items)) ++ flatMap (toBe itemSize) items
-
--- the number of a record's version
-abbrev pub versionIn : List ℕ → ℕ
-versionIn r = fieldOf recordFields versionField r
+recordBytes q items = bytesOf recordFields (requestNumbers q (length items)) ++ flatMap (toBe (itemSize current)) items
 
 -- records of a version are taken by it and by later ones
 abbrev pub takesVersion : Version → ℕ → Bool
@@ -154,7 +158,7 @@ renewed r = take 3 r ++ (toBe 2 recordVersion ++ drop 5 r)
 
 -- what a record may ask for is said by its own version, whatever the table's
 abbrev pub longestAsked : List ℕ → Seconds
-longestAsked r = longestPeriod (versionOf (versionIn r))
+longestAsked r = longestPeriod (writtenIn r)
 
 -- ---- the table of kinds
 

@@ -9,7 +9,7 @@ use Rattle.octets.specs.Runs.{pieces}
 use Rattle.rules.specs.Lists.{every, ascending}
 use Rattle.rules.specs.Layout.{Version, versionNumber, current, longestPeriod, headerSize, headSize, cellSize, mostCells, recordSize, itemSize, mostItems}
 use Rattle.rules.specs.Table.{legalHead, identityAt, cellCount, ownVersion, tableMarked, olderMarked, legalTable}
-use Rattle.rules.specs.Record.{longestAsked, requestOf, zeroByte, itemCount, itemsOf, recordMarked, kindAllows, areaFits, withinLimits, cancelsNothing}
+use Rattle.rules.specs.Record.{writtenIn, longestAsked, requestOf, zeroByte, itemCount, itemsOf, recordMarked, kindAllows, areaFits, withinLimits, cancelsNothing}
 use Rattle.rules.specs.Answer.{roomFor}
 use Rattle.rules.specs.declared.Seconds.{Seconds}
 use Rattle.rules.specs.declared.Request.{Request}
@@ -81,7 +81,7 @@ abbrev pub fewItems : ℕ → Bool
 fewItems n = leb n mostItems
 
 abbrev pub rightLength : List ℕ → Bool
-rightLength r = fewItems (itemCount r) && eqb (length r) (recordSize + itemSize * itemCount r)
+rightLength r = fewItems (itemCount r) && eqb (length r) (recordSize + itemSize (writtenIn r) * itemCount r)
 
 -- 5: of n items, and whether the zero byte is zero
 abbrev pub fieldsAllowed : Bool → Request → ℕ → Bool
@@ -134,7 +134,7 @@ recordTests v r =
 abbrev pub writeTests : Request → List ℕ → ℕ → List Test
 writeTests q items room =
     (test (fewItems (length items)) RecordLength ∷ requestTests true (longestPeriod current) q items)
-    ++ (test (fitsIn (recordSize + itemSize * length items) room) ShortBuffer ∷ [])
+    ++ (test (fitsIn (recordSize + itemSize current * length items) room) ShortBuffer ∷ [])
 
 -- 1 to 8
 abbrev pub applyTests : Version → List ℕ → List ℕ → ℕ → List Test

@@ -3,8 +3,8 @@ use mathlib.Core.Path.{_≡_}
 use mathlib.Core.List.{List, [], _∷_, _++_}
 use Prim.Native.Nat.{ℕ}
 use lib.ListN.{replicate}
-use Rattle.rules.specs.Applied.{Outcome, built}
-use Rattle.rules.specs.ByHand.{header, identity, head, text, free, request, starts, cancels, passes, answers, says, outcomesOf, refuses, leaves, one, Sample, sample, AllHold}
+use Rattle.rules.specs.Applied.{built}
+use Rattle.rules.specs.ByHand.{header, identity, head, text, free, request, starts, cancels, passes, answers, says, refuses, leaves, one, Sample, sample, AllHold, AllServed}
 
 -- ---- P1 to P13
 
@@ -190,22 +190,25 @@ example =
     ∷ cancels 4 4370 16 0 0 []
     ∷ []
 
-abbrev pub exampleGives : List Outcome
+-- the table that each leaves, and what it is told
+abbrev pub exampleGives : List (List ℕ × List ℕ)
 exampleGives =
-    leaves (two (flood 0 0) (flood 0 0)) (answers 1 4370 16 2 ++ says 16 0 0 ++ says 32 0 0)
-    ∷ leaves (two (flood 1 1) (flood 1 1)) (answers 5 0 0 2 ++ says 16 1 7 ++ says 32 1 7)
-    ∷ leaves (two (flood 1 0) (flood 1 0)) (answers 5 0 0 0)
-    ∷ leaves (two (flood 2 1) (flood 2 1)) (answers 5 0 0 2 ++ says 16 2 7 ++ says 32 2 7)
-    ∷ leaves (two (flood 2 1) (free 4)) (answers 2 4370 16 1 ++ says 32 2 0)
-    ∷ leaves (two (free 4) (free 4)) (answers 2 0 0 1 ++ says 16 0 0)
-    ∷ leaves (two (free 4) (free 4)) (answers 2 4370 16 0)
+    (two (flood 0 0) (flood 0 0), answers 1 4370 16 2 ++ says 16 0 0 ++ says 32 0 0)
+    ∷ (two (flood 1 1) (flood 1 1), answers 5 0 0 2 ++ says 16 1 7 ++ says 32 1 7)
+    ∷ (two (flood 1 0) (flood 1 0), answers 5 0 0 0)
+    ∷ (two (flood 2 1) (flood 2 1), answers 5 0 0 2 ++ says 16 2 7 ++ says 32 2 7)
+    ∷ (two (flood 2 1) (free 4), answers 2 4370 16 1 ++ says 32 2 0)
+    ∷ (two (free 4) (free 4), answers 2 0 0 1 ++ says 16 0 0)
+    ∷ (two (free 4) (free 4), answers 2 4370 16 0)
     ∷ []
 
--- ---- THE CLAIM: each row is as it says; the example's heads build the empty table, and its requests have these outcomes
+-- ---- THE CLAIM: each row is as it says; the example's heads build the empty table, in a buffer that is longer and in the program's own;
+-- and its requests are served so, in the program's two buffers
 
 pub record SamplesHold : Type 0 where
   pub marked : AllHold samples
   pub further : AllHold furtherSamples
   pub builds : built (head 16 1 ++ head 32 2) (replicate 262 9)
       ≡ record { number = 0; length = 256; buffer = two (free 4) (free 4) ++ replicate 6 9 }
-  pub runs : outcomesOf (two (free 4) (free 4)) example ≡ exampleGives
+  pub opens : built (head 16 1 ++ head 32 2) (replicate 256 0) ≡ record { number = 0; length = 256; buffer = two (free 4) (free 4) }
+  pub runs : AllServed (two (free 4) (free 4)) (replicate 124 0) example exampleGives

@@ -3,7 +3,7 @@ ghost use mathlib.Core.Path.{_≡_};
 ghost use Prim.Native.Nat.{_+_, _<_};
 ghost use lib.Dec.{ltb};
 ghost use Rattle.rules.specs.Layout.{cellEnd};
-ghost use Rattle.rules.specs.Identity.{identityNumber, identityAnswer, plmnOf, partOf, trackingItem};
+ghost use Rattle.rules.specs.Identity.{identityNumber, identityAnswer, plmnOf, partOf, cellItem, trackingItem};
 ghost use Rattle.rules.specs.Record.{cancelAll, concurrent, notified, textAsked};
 ghost use Rattle.rules.specs.Refusals.{numberOf, writingNumber, writingLength};
 
@@ -203,6 +203,13 @@ impl CellIdentity {
         ensures { λ r. ⌜ identityNumber r ≡ identityNumber self + 1 ⌝ }
     {
         CellIdentity(self.0 + 1)
+    }
+
+    // The item that names the cell.
+    pub fn cell_item(self) -> u64
+        ensures { λ r. ⌜ r ≡ cellItem (self .0) ⌝ }
+    {
+        self.0
     }
 
     // The item that names a tracking area: the cell's PLMN, then the code.

@@ -1,5 +1,7 @@
 -- `put_row` stores the bytes of a row at the index, and nothing else.
 -- Three stores one behind the other are one run: `row-stored`.
+use Rattle.rules.specs.Identity.{identityNumber}
+use Rattle.rules.specs.Reply.{Row}
 use Rattle.answer.proofs.RowsLaws.{row-stored}
 use borrow.Author.Needs.{needs}
 use Rattle.answer.proofs.put_row.Statement.{statement}
@@ -25,8 +27,12 @@ same-length c = search needs
 
 returns : tie.Need-returns
 returns c =
-    let s = c .before .before .before .before .before .before .before .before .before .before .before .before .before .args in
-    row-stored (s .out .now) (s .at) (record { identity = s .identity .0; count = s .count .0; content = s .content }) _ _ _ (c .before .before .before .before .before .before .before .before .before .before .put64 .ensures) (c .before .before .before .before .before .before .put16 .ensures) (c .before .before .put32 .ensures)
+    let content = c .before .before in
+    let count = content .before .before .before .before in
+    let identity = count .before .before .before .before in
+    let s = identity .before .before .before .args in
+    let row : Row = record { identity = identityNumber (s .identity); count = s .count .0; content = s .content } in
+    row-stored (s .out .now) (s .at) row _ _ _ (identity .put64 .ensures) (count .put16 .ensures) (content .put32 .ensures)
 
 pub put-row-spec : {M : Type 1} → statement M
 put-row-spec =

@@ -1,7 +1,7 @@
 -- `add_place` leaves the cell with one place more, behind the others.
 -- All bytes of the new place stand where the first free place was: `added`.
 use mathlib.Core.Path.{_∙_}
-use Rattle.cell_change.proofs.ChangesLaws.{added}
+use Rattle.cell_change.proofs.AddedLaws.{added}
 use borrow.Author.Needs.{needs}
 use Rattle.cell_change.proofs.add_place.Statement.{statement}
 use Rattle.cell_change.proofs.add_place.Tie as tie
@@ -23,9 +23,11 @@ same-length c = search needs
 
 returns : tie.Need-returns
 returns c =
-    let s = c .before .before .before .before .before .before .before in
+    let loaded = c .before .before .before .before in
+    let s = loaded .before .before .before in
+    let bytes = loaded .before .shared-slice-known in
     c .before .before .store .ensures
-    ∙ added (s .args .cell .now) (s .args .k) (s .pre .0) (s .args .new .now) (s .pre .1) (λ i. c .before .before .before .before .before .shared-slice-known .given i .fits) _ (c .before .before .before .before .load .ensures)
+    ∙ added (s .args .cell .now) (s .args .k) (s .pre .0) (s .args .new .now) (s .pre .1) (λ i. bytes .given i .fits) _ (loaded .load .ensures)
 
 pub add-place-spec : {M : Type 1} → statement M
 add-place-spec =

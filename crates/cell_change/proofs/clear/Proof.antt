@@ -1,10 +1,9 @@
 -- `clear` leaves zeros in place k, and nothing else changes.
 -- The bytes of three zeros are those of a free place: `no-words`.
 use mathlib.Core.Path.{ap, _∙_}
-use Prim.Native.Nat.{_+_, _*_}
 use lib.Seq.{sets}
-use Rattle.rules.specs.Layout.{current, headSize, placeSize}
-use Rattle.cell_change.proofs.ChangesLaws.{no-words}
+use Rattle.cell_read.specs.Places.{placeFrom}
+use Rattle.cell_change.proofs.WordsLaws.{no-words}
 use borrow.Author.Needs.{needs}
 use Rattle.cell_change.proofs.clear.Statement.{statement}
 use Rattle.cell_change.proofs.clear.Tie as tie
@@ -24,7 +23,7 @@ same-length c = search needs
 returns : tie.Need-returns
 returns c =
     let a = c .before .before .before .before .before .args in
-    c .before .before .store .ensures ∙ ap (sets (a .cell .now) ((headSize current) + placeSize current * a .k)) no-words
+    c .before .before .store .ensures ∙ ap (sets (a .cell .now) (placeFrom (a .k))) no-words
 
 pub clear-spec : {M : Type 1} → statement M
 clear-spec = tie.close (tie.spec mul-store add-store store-requires same-length returns)

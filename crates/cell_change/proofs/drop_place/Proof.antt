@@ -3,7 +3,7 @@
 use Prim.Native.Nat.{_-_}
 use Rattle.rules.specs.Layout.{placesPerCell}
 use Rattle.cell_read.specs.Places.{livePlaces, withPlaces, without}
-use Rattle.cell_change.proofs.ChangesLaws.{Moving, move-starts, move-step, move-ends}
+use Rattle.cell_change.proofs.Moving.{Moving, move-starts, move-step, move-ends}
 use borrow.Author.Needs.{needs}
 use Rattle.cell_change.proofs.drop_place.Statement.{statement}
 use Rattle.cell_change.proofs.drop_place.Tie as tie

@@ -4,7 +4,7 @@ use mathlib.Core.Path.{refl}
 use native.Mathlib.Omega.{arith}
 use Prim.Native.Nat.{_-_}
 use Rattle.rules.specs.Layout.{placesPerCell}
-use Rattle.cell_change.proofs.ChangesLaws.{Freeing, free-step, free-ends}
+use Rattle.cell_change.proofs.Freeing.{Freeing, free-step, free-ends}
 use borrow.Author.Needs.{needs}
 use Rattle.cell_change.proofs.free_all.Statement.{statement}
 use Rattle.cell_change.proofs.free_all.Tie as tie
@@ -28,7 +28,9 @@ loop-less : tie.Need-loop-less Inv-loop μ-loop
 loop-less c = search needs
 
 loop-again : tie.Need-loop-again Inv-loop μ-loop
-loop-again c = free-step _ _ _ (c .before .before .before .before .before .loop .inv) (c .before .before .before .before .loop-test .taken) _ (c .before .before .clear .ensures)
+loop-again c =
+    let test = c .before .before .before .before .loop-test in
+    free-step _ _ _ (c .before .before .before .before .before .loop .inv) (omega (arith, test .taken)) _ (c .before .before .clear .ensures)
 
 same-length : tie.Need-same-length Inv-loop μ-loop
 same-length c = search needs

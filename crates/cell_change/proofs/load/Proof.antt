@@ -1,7 +1,7 @@
 -- `load` returns the bytes of a place, from the index on, as three numbers of eight bytes.
 -- Three reads one behind the other are one run: `words-of`.
 use Rattle.cell_change.specs.Words.{wordBytes}
-use Rattle.cell_change.proofs.ChangesLaws.{words-of}
+use Rattle.cell_change.proofs.WordsLaws.{words-of}
 use borrow.Author.Needs.{needs}
 use Rattle.cell_change.proofs.load.Statement.{statement}
 use Rattle.cell_change.proofs.load.Tie as tie

@@ -1,6 +1,5 @@
 -- `place_bytes` returns the bytes of a live place.
 -- The fields are stored one behind the other over zeros; both sides are then the same bytes, written out.
-use mathlib.Core.Path.{refl}
 use Rattle.octets.specs.Numbers.{toBe}
 use Rattle.octets.specs.Fields.{bytesOf}
 use Rattle.rules.specs.Table.{placeNumbers, placeBytes}
@@ -65,7 +64,26 @@ put8-requires-2 c κs = search needs
 returns : tie.Need-returns
 unfolding toBe bytesOf placeNumbers placeBytes
 returns c =
-    rw (c .before .put82 .ensures, c .before .before .before .before .put8 .ensures, c .before .before .before .before .before .before .before .put323 .ensures, c .before .before .before .before .before .before .before .before .before .before .put164 .ensures, c .before .before .before .before .before .before .before .before .before .before .before .before .before .put163 .ensures, c .before .before .before .before .before .before .before .before .before .before .before .before .before .before .before .before .put322 .ensures, c .before .before .before .before .before .before .before .before .before .before .before .before .before .before .before .before .before .before .before .put32 .ensures, c .before .before .before .before .before .before .before .before .before .before .before .before .before .before .before .before .before .before .before .before .before .before .put162 .ensures, c .before .before .before .before .before .before .before .before .before .before .before .before .before .before .before .before .before .before .before .before .before .before .before .before .before .put16 .ensures) refl
+    let live = c .before in
+    let sib = live .before .before .before in
+    let wait = sib .before .before .before in
+    let sent = wait .before .before .before in
+    let requested = sent .before .before .before in
+    let period = requested .before .before .before in
+    let content = period .before .before .before in
+    let serial = content .before .before .before in
+    let identifier = serial .before .before .before in
+    rw (
+      live .put82 .ensures,
+      sib .put8 .ensures,
+      wait .put323 .ensures,
+      sent .put164 .ensures,
+      requested .put163 .ensures,
+      period .put322 .ensures,
+      content .put32 .ensures,
+      serial .put162 .ensures,
+      identifier .put16 .ensures,
+    )
 
 pub place-bytes-spec : {M : Type 1} → statement M
 place-bytes-spec =

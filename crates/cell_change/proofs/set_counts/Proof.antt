@@ -1,6 +1,6 @@
 -- `set_counts` leaves the cell with place k sent so often and waiting so long.
 -- Two stores where the place has the numbers: `counts-stored`.
-use Rattle.cell_change.proofs.ChangesLaws.{counts-stored}
+use Rattle.cell_change.proofs.CountsLaws.{counts-stored}
 use borrow.Author.Needs.{needs}
 use Rattle.cell_change.proofs.set_counts.Statement.{statement}
 use Rattle.cell_change.proofs.set_counts.Tie as tie

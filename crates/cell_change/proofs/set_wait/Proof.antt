@@ -1,7 +1,7 @@
 -- `set_wait` leaves the cell with place k waiting so long.
 -- One store where the place has the number: `wait-stored`.
 use mathlib.Core.Path.{_∙_}
-use Rattle.cell_change.proofs.ChangesLaws.{wait-stored}
+use Rattle.cell_change.proofs.CountsLaws.{wait-stored}
 use borrow.Author.Needs.{needs}
 use Rattle.cell_change.proofs.set_wait.Statement.{statement}
 use Rattle.cell_change.proofs.set_wait.Tie as tie

@@ -1,7 +1,7 @@
 -- `store` stores the bytes of a place at the index, and nothing else.
 -- Three stores one behind the other are one run: `words-stored`.
 use Rattle.cell_change.specs.Words.{wordBytes}
-use Rattle.cell_change.proofs.ChangesLaws.{words-stored}
+use Rattle.cell_change.proofs.WordsLaws.{words-stored}
 use borrow.Author.Needs.{needs}
 use Rattle.cell_change.proofs.store.Statement.{statement}
 use Rattle.cell_change.proofs.store.Tie as tie
@@ -30,8 +30,11 @@ same-length c = search needs
 returns : tie.Need-returns
 unfolding wordBytes
 returns c =
-    let a = c .before .before .before .before .before .before .before .before .before .before .before .before .before .args in
-    words-stored (a .to .now) (a .at) (a .words .first) (a .words .second) (a .words .third) _ _ _ (c .before .before .before .before .before .before .before .before .before .before .put64 .ensures) (c .before .before .before .before .before .before .put642 .ensures) (c .before .before .put643 .ensures)
+    let third = c .before .before in
+    let second = third .before .before .before .before in
+    let first = second .before .before .before .before in
+    let a = first .before .before .before .args in
+    words-stored (a .to .now) (a .at) (a .words .first) (a .words .second) (a .words .third) _ _ _ (first .put64 .ensures) (second .put642 .ensures) (third .put643 .ensures)
 
 pub store-spec : {M : Type 1} → statement M
 store-spec =

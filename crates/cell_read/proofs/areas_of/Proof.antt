@@ -36,7 +36,13 @@ get24-requires-4 : tie.Need-get24-requires-4
 get24-requires-4 c κs = search needs
 
 returns : tie.Need-returns
-returns c = let s = c .before .before .before .before .before .before in areas-read (s .args .cell .now) (s .pre) _ (c .before .before .before .before .get8 .ensures) (c .before .before .before .get24 .ensures) (c .before .before .get242 .ensures) (c .before .get243 .ensures) (c .get244 .ensures)
+returns c =
+    let third = c .before in
+    let second = third .before in
+    let first = second .before in
+    let used = first .before in
+    let s = used .before .before in
+    areas-read (s .args .cell .now) (s .pre) _ (used .get8 .ensures) (first .get24 .ensures) (second .get242 .ensures) (third .get243 .ensures) (c .get244 .ensures)
 
 pub areas-of-spec : {M : Type 1} → statement M
 areas-of-spec =

@@ -4,7 +4,7 @@ use borrow.Author.Needs.{needs}
 use mathlib.Core.Path.{ap, _∙_}
 use Rattle.rules.specs.Record.{notified}
 use Rattle.rules.specs.declared.Request.{Request}
-use Rattle.record_read.proofs.ReadLaws.{cancelled-zeros}
+use Rattle.record_read.proofs.FieldReads.{cancelled-zeros}
 use Rattle.record_read.proofs.cancel_zeros.Statement.{statement}
 use Rattle.record_read.proofs.cancel_zeros.Tie as tie
 

@@ -1,7 +1,7 @@
 -- `count` returns the count of items that a record gives.
 -- It is field 12: `record-field`.
 use Rattle.octets.specs.Fields.{offset}
-use Rattle.record_read.proofs.ReadLaws.{record-field}
+use Rattle.record_read.proofs.FieldReads.{record-field}
 use borrow.Author.Needs.{needs}
 use Rattle.record_read.proofs.count.Statement.{statement}
 use Rattle.record_read.proofs.count.Tie as tie

@@ -6,7 +6,7 @@ use Rattle.rules.specs.Lists.{zeros}
 use Rattle.rules.specs.Record.{identifierToSib, cancelZeros}
 use Rattle.rules.specs.declared.Request.{Request}
 use Rattle.record_judge.proofs.ToldLaws.{told-verdict}
-use Rattle.record_read.proofs.ReadLaws.{read-items, read-length}
+use Rattle.record_read.proofs.FieldReads.{read-items, read-length}
 use Rattle.record_read.proofs.fields_judged.Statement.{statement}
 use Rattle.record_read.proofs.fields_judged.Tie as tie
 

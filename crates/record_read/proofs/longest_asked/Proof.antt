@@ -3,7 +3,7 @@
 use borrow.Author.Needs.{needs}
 use borrow.Author.Tests.{eq-eqb, ne-eqb}
 use Rattle.octets.specs.Fields.{offset}
-use Rattle.record_read.proofs.ReadLaws.{record-field}
+use Rattle.record_read.proofs.FieldReads.{record-field}
 use Rattle.record_read.proofs.longest_asked.Statement.{statement}
 use Rattle.record_read.proofs.longest_asked.Tie as tie
 

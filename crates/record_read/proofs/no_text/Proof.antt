@@ -1,7 +1,7 @@
 -- `no_text` says whether the fields from the identifier to the SIB kind are zero.
 -- They stand side by side, so two wide reads are zero exactly if they are: `text-zeros`.
 use borrow.Author.Needs.{needs}
-use Rattle.record_read.proofs.ReadLaws.{text-zeros}
+use Rattle.record_read.proofs.FieldReads.{text-zeros}
 use Rattle.record_read.proofs.no_text.Statement.{statement}
 use Rattle.record_read.proofs.no_text.Tie as tie
 

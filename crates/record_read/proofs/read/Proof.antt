@@ -1,6 +1,6 @@
 -- `read` gives the fields and the count of items of an accepted record, and of any other bytes the refusal.
 -- By the cases of the verdict; an accepted record is long enough for its fields.
-use Rattle.record_read.proofs.ReadLaws.{accepted-long, read-fields, read-nothing}
+use Rattle.record_read.proofs.TestOrder.{accepted-long, read-fields, read-nothing}
 use borrow.Author.Needs.{needs}
 use Rattle.record_read.proofs.read.Statement.{statement}
 use Rattle.record_read.proofs.read.Tie as tie

@@ -1,8 +1,6 @@
 -- `request` returns the fields of a record.
--- Each is read at its offset: `record-field`.
-use Rattle.octets.specs.Fields.{offset}
-use Rattle.rules.specs.Record.{requestOf}
-use Rattle.record_read.proofs.ReadLaws.{record-field}
+-- Each is read at its offset: `request-read`.
+use Rattle.record_read.proofs.FieldReads.{request-read}
 use borrow.Author.Needs.{needs}
 use Rattle.record_read.proofs.request.Statement.{statement}
 use Rattle.record_read.proofs.request.Tie as tie
@@ -34,12 +32,23 @@ get16-requires-3 c κs = search needs
 get8-requires-4 : tie.Need-get8-requires-4
 get8-requires-4 c κs = search needs
 
+-- the stages: the call, and the first four fields read
+abbrev Four : Type 0
+Four = tie.After-get16
+
+abbrev called : Four → tie.Start
+called c = c .before .before .before .before .before
+
 returns : tie.Need-returns
-unfolding requestOf offset
 returns c =
-    let r = c .before .before .before .before .before .before .before .before .before .before .args .req .now in
-    let f = record-field r (c .before .before .before .before .before .before .before .before .before .before .pre) in
-    rw (c .before .before .before .before .before .before .before .before .get8 .ensures, f 2, c .before .before .before .before .before .before .before .get82 .ensures, f 3, c .before .before .before .before .before .before .get83 .ensures, f 4, c .before .before .before .before .before .get16 .ensures, f 5, c .before .before .before .before .get162 .ensures, f 6, c .before .before .before .get32 .ensures, f 7, c .before .before .get322 .ensures, f 8, c .before .get163 .ensures, f 9, c .get84 .ensures, f 10)
+    let four : Four = c .before .before .before .before .before in
+    let kind = four .before .before .before .get8 .ensures in
+    let flags = four .before .before .get82 .ensures in
+    let area = four .before .get83 .ensures in
+    let serial = c .before .before .before .before .get162 .ensures in
+    let content = c .before .before .before .get32 .ensures in
+    let period = c .before .before .get322 .ensures in
+    request-read (called four .args .req .now) (called four .pre) kind flags area (four .get16 .ensures) serial content period (c .before .get163 .ensures) (c .get84 .ensures)
 
 pub request-spec : {M : Type 1} → statement M
 request-spec =

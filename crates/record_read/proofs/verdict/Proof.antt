@@ -3,7 +3,8 @@
 use mathlib.Core.Path.{sym, _∙_}
 use Rattle.octets.specs.Fields.{offset}
 use Rattle.rules.specs.Record.{itemsOf}
-use Rattle.record_read.proofs.ReadLaws.{record-field, mark-refused, long-enough, many-refused, length-refused, zero-refused, rest-judged}
+use Rattle.record_read.proofs.FieldReads.{record-field}
+use Rattle.record_read.proofs.TestOrder.{mark-refused, long-enough, many-refused, length-refused, zero-refused, rest-judged}
 use borrow.Author.Needs.{needs}
 use Rattle.record_read.proofs.verdict.Statement.{statement}
 use Rattle.record_read.proofs.verdict.Tie as tie

@@ -24,12 +24,26 @@ put16-requires-2 c κs = search needs
 same-length : tie.Need-same-length
 same-length c = search needs
 
+-- the stages: the call, and two fields stored
+abbrev Called : Type 0
+Called = tie.Start
+
+abbrev Second : Type 0
+Second = tie.After-put8
+
+abbrev called : Second → Called
+called c = c .before .before .before .before .before .before .before
+
 returns : tie.Need-returns
 unfolding puts offset
 returns c =
-    let a = c .before .before .before .before .before .before .before .before .before .before .before .before .before .before .before .before .before .args in
+    let count = c .before .before in
+    let zero = count .before .before .before .before in
+    let sib : Second = zero .before .before .before .before in
+    let requested = sib .before .before .before .before in
+    let a = called sib .args in
     let q = a .request in
-    rw (c .before .before .put162 .ensures, c .before .before .before .before .before .before .put82 .ensures, c .before .before .before .before .before .before .before .before .before .before .put8 .ensures, c .before .before .before .before .before .before .before .before .before .before .before .before .before .before .put16 .ensures)
+    rw (count .put162 .ensures, zero .put82 .ensures, sib .put8 .ensures, requested .put16 .ensures)
     (puts-bytesOf (a .buffer .now) (offset recordFields 9) (drop 9 recordFields) (q .requested .0 ∷ q .sib ∷ 0 ∷ a .n ∷ []))
 
 pub put-counts-spec : {M : Type 1} → statement M

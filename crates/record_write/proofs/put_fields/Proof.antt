@@ -20,10 +20,24 @@ put-counts-requires c κs = search needs
 same-length : tie.Need-same-length
 same-length c = search needs
 
+-- the stages: the call, and the mark and the kind stored
+abbrev Called : Type 0
+Called = tie.Start
+
+abbrev WithKind : Type 0
+WithKind = tie.After-put-kind
+
+abbrev called : WithKind → Called
+called c = c .before .before .before .before .before .before .before
+
 returns : tie.Need-returns
 returns c =
-    let a = c .before .before .before .before .before .before .before .before .before .before .before .before .before .before .before .before .before .args in
-    fields-put (a .request) (a .n) (a .buffer .now) (c .before .before .before .before .before .before .before .before .before .before .before .before .before .before .put-mark .ensures) (c .before .before .before .before .before .before .before .before .before .before .put-kind .ensures) (c .before .before .before .before .before .before .put-text .ensures) (c .before .before .put-counts .ensures)
+    let counts = c .before .before in
+    let text = counts .before .before .before .before in
+    let kind : WithKind = text .before .before .before .before in
+    let mark = kind .before .before .before .before in
+    let a = called kind .args in
+    fields-put (a .request) (a .n) (a .buffer .now) (mark .put-mark .ensures) (kind .put-kind .ensures) (text .put-text .ensures) (counts .put-counts .ensures)
 
 pub put-fields-spec : {M : Type 1} → statement M
 put-fields-spec =

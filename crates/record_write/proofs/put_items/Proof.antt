@@ -8,16 +8,16 @@ use lib.ListN.{length, drop}
 use lib.Seq.{sets, length-sets}
 use borrow.Author.Needs.{needs}
 use Rattle.octets.specs.Numbers.{toBe}
-use Rattle.rules.specs.Layout.{recordSize, itemSize}
+use Rattle.rules.specs.Layout.{current, recordSize, itemSize}
 use Rattle.record_write.proofs.WriteLaws.{put-two, put-last, all-put}
 use Rattle.record_write.proofs.put_items.Statement.{statement}
 use Rattle.record_write.proofs.put_items.Tie as tie
 
 record StillToCome (buffer₀ items buffer : List ℕ) (at k : ℕ) : Type 0 where
   within : k ≤ length items
-  here : at ≡ recordSize + itemSize * k
+  here : at ≡ recordSize + itemSize current * k
   long : length buffer ≡ length buffer₀
-  same : sets buffer₀ recordSize (flatMap (toBe itemSize) items) ≡ sets buffer at (flatMap (toBe itemSize) (drop k items))
+  same : sets buffer₀ recordSize (flatMap (toBe (itemSize current)) items) ≡ sets buffer at (flatMap (toBe (itemSize current)) (drop k items))
 
 abbrev Inv-loop : tie.InvT-loop
 Inv-loop buffer₀ items at₀ k₀ buffer at k = StillToCome buffer₀ items buffer at k
@@ -69,14 +69,18 @@ loop-less c = search needs
 
 loop-again : tie.Need-loop-again Inv-loop μ-loop
 loop-again c =
-    let l = c .before .before .before .before .before .before .before .before .before .before .before .loop in
-    let put = c .before .before .before .before .before .before .before .put64 .ensures in
+    let one = c .before .before .before .before .before .before .before in
+    let turn = one .before .before .before in
+    let l = turn .before .loop in
+    let put = one .put64 .ensures in
     let also = c .before .before .put642 .ensures in
     record {
       within = omega arith;
       here = omega arith;
       long = rw (also, length-sets, put, length-sets) (l .inv .long);
-      same = l .inv .same ∙ put-two itemSize (l .buffer) (l .at) _ (l .k) put {j = l .at + 16} {m = l .k + 2} also (c .before .before .before .before .before .before .before .before .before .before .loop-test .taken) (omega arith) (omega arith);
+      same =
+          l .inv .same
+          ∙ put-two (itemSize current) (l .buffer) (l .at) _ (l .k) put {j = l .at + 16} {m = l .k + 2} also (turn .loop-test .taken) (omega arith) (omega arith);
     }
 
 same-length : tie.Need-same-length Inv-loop μ-loop
@@ -85,7 +89,7 @@ same-length c = search needs
 returns : tie.Need-returns Inv-loop μ-loop
 returns c =
     let l = c .before .before .loop in
-    sym (l .inv .same ∙ all-put itemSize (l .buffer) (l .at) (c .before .before .before .before .before .args .items .now) (l .k) (c .if1 .taken))
+    sym (l .inv .same ∙ all-put (itemSize current) (l .buffer) (l .at) (c .before .before .before .before .before .args .items .now) (l .k) (c .if1 .taken))
 
 mul-put64-3 : tie.Need-mul-put64-3 Inv-loop μ-loop
 mul-put64-3 c = search needs
@@ -101,8 +105,11 @@ same-length-2 c = search needs
 
 returns-2 : tie.Need-returns-2 Inv-loop μ-loop
 returns-2 c =
-    let l = c .before .before .before .before .before .before .before .loop in
-    sym (l .inv .same ∙ put-last itemSize (l .buffer) (l .at) _ (l .k) (c .before .before .put643 .ensures) (c .before .before .before .before .before .if1 .left) (c .before .before .before .before .before .before .loop-test .left))
+    let put = c .before .before in
+    let one-left = put .before .before .before in
+    let ended = one-left .before in
+    let l = ended .before .loop in
+    sym (l .inv .same ∙ put-last (itemSize current) (l .buffer) (l .at) _ (l .k) (put .put643 .ensures) (one-left .if1 .left) (ended .loop-test .left))
 
 pub put-items-spec : {M : Type 1} → statement M
 put-items-spec =

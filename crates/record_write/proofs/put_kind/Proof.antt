@@ -21,12 +21,25 @@ put8-requires-3 c κs = search needs
 same-length : tie.Need-same-length
 same-length c = search needs
 
+-- the stages: the call, and two fields stored
+abbrev Called : Type 0
+Called = tie.Start
+
+abbrev Second : Type 0
+Second = tie.After-put82
+
+abbrev called : Second → Called
+called c = c .before .before .before .before .before .before .before
+
 returns : tie.Need-returns
 unfolding puts offset
 returns c =
-    let a = c .before .before .before .before .before .before .before .before .before .before .before .before .before .args in
+    let area = c .before .before in
+    let flags : Second = area .before .before .before .before in
+    let kind = flags .before .before .before .before in
+    let a = called flags .args in
     let q = a .request in
-    rw (c .before .before .put83 .ensures, c .before .before .before .before .before .before .put82 .ensures, c .before .before .before .before .before .before .before .before .before .before .put8 .ensures)
+    rw (area .put83 .ensures, flags .put82 .ensures, kind .put8 .ensures)
     (puts-bytesOf (a .buffer .now) (offset recordFields 2) (drop 2 recordFields) (q .kind ∷ q .flags ∷ q .area ∷ []))
 
 pub put-kind-spec : {M : Type 1} → statement M

@@ -21,7 +21,10 @@ same-length : tie.Need-same-length
 same-length c = search needs
 
 returns : tie.Need-returns
-returns c = mark-put (c .before .before .before .before .before .before .before .before .before .args .buffer .now) (c .before .before .before .before .before .before .put32 .ensures) (c .before .before .put8 .ensures)
+returns c =
+    let version = c .before .before in
+    let mark = version .before .before .before .before in
+    mark-put (mark .before .before .before .args .buffer .now) (mark .put32 .ensures) (version .put8 .ensures)
 
 pub put-mark-spec : {M : Type 1} → statement M
 put-mark-spec =

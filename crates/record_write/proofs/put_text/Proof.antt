@@ -24,12 +24,26 @@ put32-requires-2 c κs = search needs
 same-length : tie.Need-same-length
 same-length c = search needs
 
+-- the stages: the call, and two fields stored
+abbrev Called : Type 0
+Called = tie.Start
+
+abbrev Second : Type 0
+Second = tie.After-put162
+
+abbrev called : Second → Called
+called c = c .before .before .before .before .before .before .before
+
 returns : tie.Need-returns
 unfolding puts offset
 returns c =
-    let a = c .before .before .before .before .before .before .before .before .before .before .before .before .before .before .before .before .before .args in
+    let period = c .before .before in
+    let content = period .before .before .before .before in
+    let serial : Second = content .before .before .before .before in
+    let identifier = serial .before .before .before .before in
+    let a = called serial .args in
     let q = a .request in
-    rw (c .before .before .put322 .ensures, c .before .before .before .before .before .before .put32 .ensures, c .before .before .before .before .before .before .before .before .before .before .put162 .ensures, c .before .before .before .before .before .before .before .before .before .before .before .before .before .before .put16 .ensures)
+    rw (period .put322 .ensures, content .put32 .ensures, serial .put162 .ensures, identifier .put16 .ensures)
     (puts-bytesOf (a .buffer .now) (offset recordFields 5) (drop 5 recordFields) (q .identifier ∷ q .serial ∷ q .content ∷ q .period .0 ∷ []))
 
 pub put-text-spec : {M : Type 1} → statement M

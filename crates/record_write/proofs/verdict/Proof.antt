@@ -17,7 +17,8 @@ entry j = j .before .before .before .before .before .before
 said : (j : tie.After-judged) → j .judged .result ≡ requestVerdict (longestPeriod current) (entry j .args .request) (entry j .args .items .now)
 said j =
     j .judged .ensures
-    ∙ told-verdict (longestPeriod current) (entry j .args .request) (entry j .args .items .now) (j .before .before .no-text .ensures) (j .before .cancel-zeros .ensures) refl (j .before .before .before .any-item .ensures)
+    ∙ told-verdict (longestPeriod current) (entry j .args .request) (entry j .args .items .now)
+    (j .before .before .no-text .ensures) (j .before .cancel-zeros .ensures) refl (j .before .before .before .any-item .ensures)
 
 -- ---- the steps
 

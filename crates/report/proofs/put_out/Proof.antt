@@ -1,6 +1,6 @@
+-- `put_out` writes a part of the buffer that lies within it.
 use mathlib.Core.Path.{sym}
 use lib.Seq.{length-take-le}
--- `put_out` writes a part of the buffer that lies within it.
 use native.Mathlib.Omega.{arith}
 use borrow.Author.Needs.{needs}
 use Rattle.report.proofs.put_out.Statement.{statement}

@@ -1,11 +1,40 @@
 -- `step` takes a turn, and writes and reads as it asks for.
 use mathlib.Core.Path.{_≡_, sym, _∙_}
-use mathlib.Core.Bool.{true, false, false≢true}
+use mathlib.Core.Bool.{false, false≢true}
 use borrow.Author.Tests.{not-true, not-false}
 use Rattle.report.proofs.GoingLaws.{Told, goes-on, writes-on, room-to-read, reads-on}
 use borrow.Author.Needs.{needs}
 use Rattle.report.proofs.step.Statement.{statement}
 use Rattle.report.proofs.step.Tie as tie
+
+-- the stages: the call; a turn taken; its text written
+abbrev Called : Type 0
+Called = tie.Start
+
+abbrev Turned : Type 0
+Turned = tie.After-turn
+
+abbrev Wrote : Type 0
+Wrote = tie.After-write-text
+
+abbrev called : Turned → Called
+called c = c .before .before .before .before .before .before .before .before .before
+
+abbrev turned-at : Wrote → Turned
+turned-at c = c .before .before .before .before .before .before .before .before .before .before
+
+told : (c : Turned) → let a = called c .args in
+    Told (a .input .now) (a .table .now) (a .answer .now) (a .out .now) (c .turn .result) (c .turn .last .1 .1 .0) (c .turn .last .1 .1 .1 .0) (c .turn .last .1 .1 .1 .1 .0)
+told c =
+    let t = c .turn in
+    record {
+      before = called c .args .s;
+      began = called c .pre .0;
+      turned = t .ensures;
+      table-long = t .kept .1 .1 .0;
+      answer-long = t .kept .1 .1 .1 .0;
+      out-long = t .kept .1 .1 .1 .1 .0;
+    }
 
 turn-requires : tie.Need-turn-requires
 turn-requires c κs = search needs
@@ -24,12 +53,8 @@ same-length-4 c = search needs
 
 returns : tie.Need-returns
 returns c =
-    let a = c .before .before .before .before .before .before .before .before .before .before .before .before .before .before .before .before .before .args in
-    let t = c .before .before .before .before .before .before .before .before .turn in
-    let y : Told (a .input .now) (a .table .now) (a .answer .now) (a .out .now) (t .result) (t .last .1 .1 .0) (t .last .1 .1 .1 .0) (t .last .1 .1 .1 .1 .0) =
-    record { before = a .s; began = c .before .before .before .before .before .before .before .before .before .before .before .before .before .before .before .before .before .pre .0; turned = t .ensures; table-long = t .kept .1 .1 .0; answer-long = t .kept .1 .1 .1 .0; out-long = t .kept .1 .1 .1 .1 .0 }
-    in
-    λ _. goes-on y (not-true (t .result .writes) (c .if1 .taken))
+    let at = c .before .before .before .before .before .before .before .before in
+    λ _. goes-on (told at) (not-true (at .turn .result .writes) (c .if1 .taken))
 
 write-text-requires : tie.Need-write-text-requires
 write-text-requires c κs = search needs
@@ -64,24 +89,16 @@ same-length-12 c = search needs
 
 returns-3 : tie.Need-returns-3
 returns-3 c =
-    let a = c .before .before .before .before .before .before .before .before .before .before .before .before .before .before .before .before .before .before .before .before .before .before .args in
-    let t = c .before .before .before .before .before .before .before .before .before .before .before .before .before .turn in
-    let y : Told (a .input .now) (a .table .now) (a .answer .now) (a .out .now) (t .result) (t .last .1 .1 .0) (t .last .1 .1 .1 .0) (t .last .1 .1 .1 .1 .0) =
-    record { before = a .s; began = c .before .before .before .before .before .before .before .before .before .before .before .before .before .before .before .before .before .before .before .before .before .before .pre .0; turned = t .ensures; table-long = t .kept .1 .1 .0; answer-long = t .kept .1 .1 .1 .0; out-long = t .kept .1 .1 .1 .1 .0 }
-    in
-    let w = c .before .before .before .write-text in
-    λ _. writes-on y (w .result) (w .ensures)
+    let at = c .before .before .before in
+    λ _. writes-on (told (turned-at at)) (at .write-text .result) (at .write-text .ensures)
 
 read-on-requires : tie.Need-read-on-requires
 read-on-requires c κs =
-    let a = c .before .before .before .before .before .before .before .before .before .before .before .before .before .before .before .before .before .before .before .before .before .before .before .args in
-    let t = c .before .before .before .before .before .before .before .before .before .before .before .before .before .before .turn in
-    let y : Told (a .input .now) (a .table .now) (a .answer .now) (a .out .now) (t .result) (t .last .1 .1 .0) (t .last .1 .1 .1 .0) (t .last .1 .1 .1 .1 .0) =
-    record { before = a .s; began = c .before .before .before .before .before .before .before .before .before .before .before .before .before .before .before .before .before .before .before .before .before .before .before .pre .0; turned = t .ensures; table-long = t .kept .1 .1 .0; answer-long = t .kept .1 .1 .1 .0; out-long = t .kept .1 .1 .1 .1 .0 }
-    in
-    let w = c .before .before .before .before .write-text in
+    let at = c .before .before .before .before in
+    let y = told (turned-at at) in
+    let w = at .write-text in
     let s = writes-on y (w .result) (w .ensures) in
-    (s .order, (s .within, room-to-read y (w .result) (w .ensures) (not-false (w .result .waits) (c .before .if3 .left)) (c .before .before .before .before .before .before .before .before .before .before .before .before .before .before .before .before .before .before .before .before .before .before .before .pre .1)))
+    (s .order, (s .within, room-to-read y (w .result) (w .ensures) (not-false (w .result .waits) (c .before .if3 .left)) (called (turned-at at) .pre .1)))
 
 same-length-13 : tie.Need-same-length-13
 same-length-13 c = search needs
@@ -97,14 +114,10 @@ same-length-16 c = search needs
 
 returns-4 : tie.Need-returns-4
 returns-4 c =
-    let a = c .before .before .before .before .before .before .before .before .before .before .before .before .before .before .before .before .before .before .before .before .before .before .before .before .before .before .args in
-    let t = c .before .before .before .before .before .before .before .before .before .before .before .before .before .before .before .before .before .turn in
-    let y : Told (a .input .now) (a .table .now) (a .answer .now) (a .out .now) (t .result) (t .last .1 .1 .0) (t .last .1 .1 .1 .0) (t .last .1 .1 .1 .1 .0) =
-    record { before = a .s; began = c .before .before .before .before .before .before .before .before .before .before .before .before .before .before .before .before .before .before .before .before .before .before .before .before .before .before .pre .0; turned = t .ensures; table-long = t .kept .1 .1 .0; answer-long = t .kept .1 .1 .1 .0; out-long = t .kept .1 .1 .1 .1 .0 }
-    in
-    let w = c .before .before .before .before .before .before .before .write-text in
+    let at = c .before .before .before .before .before .before .before in
+    let w = at .write-text in
     let r = c .before .before .read-on in
-    λ _. reads-on y (w .result) (w .ensures) (r .result) _ (r .ensures)
+    λ _. reads-on (told (turned-at at)) (w .result) (w .ensures) (r .result) _ (r .ensures)
 
 pub step-spec : {M : Type 1} → statement M
 step-spec =

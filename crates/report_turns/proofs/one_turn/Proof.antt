@@ -15,9 +15,12 @@ same-length-2 c = search needs
 
 returns : tie.Need-returns
 returns c =
-    let a = c .before .before .before .before .before .before .before .before .before .before .before .before .args in
     let x = c .before .before .before .before .open-table in
-    without-table (a .cells) (a .table .now) (a .answer .now) (a .held .now) (a .ended) (a .out .now) (a .at) (x .result) (x .last .1 .1 .0) (a .answer .now) (x .last .1 .1 .1 .0) (c .before .before .before .before .before .before .before .if1 .taken) (x .ensures (a .answer .now) (c .before .before .before .before .before .before .before .before .before .before .before .before .pre .answer-room))
+    let none = c .before .before .before .before .before .before .before in
+    let start = none .before .before .before .before .before in
+    let a = start .args in
+    without-table (a .cells) (a .table .now) (a .answer .now) (a .held .now) (a .ended) (a .out .now) (a .at) (x .result) (x .last .1 .1 .0)
+    (a .answer .now) (x .last .1 .1 .1 .0) (none .if1 .taken) (x .ensures (a .answer .now) (start .pre .answer-room))
 
 serve-next-requires : tie.Need-serve-next-requires
 serve-next-requires c κs = search needs
@@ -33,9 +36,11 @@ same-length-5 c = search needs
 
 returns-2 : tie.Need-returns-2
 returns-2 c =
-    let a = c .before .before .before .before .before .before .before .before .before .before .before .before .before .before .before .args in
     let x = c .before .before .before .before .before .before .serve-next in
-    with-table (a .cells) (a .table .now) (a .answer .now) (a .held .now) (a .ended) (a .out .now) (a .at) (x .result) (x .last .1 .1 .1 .0) (x .last .1 .1 .1 .1 .0) (x .last .1 .1 .1 .1 .1 .0) (c .before .before .before .before .before .before .before .before .before .before .if1 .left) (x .ensures)
+    let some = c .before .before .before .before .before .before .before .before .before .before in
+    let a = some .before .before .before .before .before .args in
+    with-table (a .cells) (a .table .now) (a .answer .now) (a .held .now) (a .ended) (a .out .now) (a .at) (x .result)
+    (x .last .1 .1 .1 .0) (x .last .1 .1 .1 .1 .0) (x .last .1 .1 .1 .1 .1 .0) (some .if1 .left) (x .ensures)
 
 pub one-turn-spec : {M : Type 1} → statement M
 one-turn-spec =

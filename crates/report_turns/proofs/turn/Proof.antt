@@ -10,6 +10,16 @@ use borrow.Author.Needs.{needs}
 use Rattle.report_turns.proofs.turn.Statement.{statement}
 use Rattle.report_turns.proofs.turn.Tie as tie
 
+-- the stages: the call; one turn taken
+abbrev Called : Type 0
+Called = tie.Start
+
+abbrev Taken : Type 0
+Taken = tie.After-one-turn
+
+abbrev called : Taken → Called
+called c = c .before .before .before .before .before .before .before .before .before
+
 sub-one-turn : tie.Need-sub-one-turn
 sub-one-turn c = search needs
 
@@ -24,10 +34,17 @@ one-turn-requires c κs = search needs
 
 add-t10 : tie.Need-add-t10
 add-t10 c =
-    let a = c .before .before .before .before .before .before .before .before .before .before .before .before .before .before .before .before .args in
-    let p = c .before .before .before .before .before .before .before .before .before .before .before .before .before .before .before .before .pre in
-    let x = c .before .before .before .before .before .before .before .one-turn in
-    omega (arith, p .within, c .before .before .before .before .before .before .before .before .before .before .before .before .before .before .before .before .good, taken-within (a .s) (a .input .now) (a .table .now) (a .answer .now) (p .order) (p .within) (p .to-take .few) (x .result) (a .out .now) (x .last .1 .1 .1 .0) (x .last .1 .1 .1 .1 .0) (x .last .1 .1 .1 .1 .1 .0) (x .ensures))
+    let at = c .before .before .before .before .before .before .before in
+    let a = called at .args in
+    let p = called at .pre in
+    let x = at .one-turn in
+    omega (
+      arith,
+      p .within,
+      called at .good,
+      taken-within (a .s) (a .input .now) (a .table .now) (a .answer .now) (p .order) (p .within) (p .to-take .few)
+          (x .result) (a .out .now) (x .last .1 .1 .1 .0) (x .last .1 .1 .1 .1 .0) (x .last .1 .1 .1 .1 .1 .0) (x .ensures),
+    )
 
 sub-t21 : tie.Need-sub-t21
 sub-t21 c = search needs
@@ -43,10 +60,13 @@ same-length-3 c = search needs
 
 returns : tie.Need-returns
 returns c =
-    let a = c .before .before .before .before .before .before .before .before .before .before .before .before .before .before .before .before .before .before .args in
-    let p = c .before .before .before .before .before .before .before .before .before .before .before .before .before .before .before .before .before .before .pre in
-    let x = c .before .before .before .before .before .before .before .before .before .one-turn in
-    turned (a .s) (a .input .now) (a .table .now) (a .answer .now) (p .order) (p .within) (p .to-take .few) (x .result) (a .out .now) (x .last .1 .1 .1 .0) (x .last .1 .1 .1 .1 .0) (x .last .1 .1 .1 .1 .1 .0) _ (x .ensures) (ap (λ (n : ℕ). (x .result .waits || x .result .stops) || ltb (n - x .result .end) mostText) (x .kept .1 .1 .1 .1 .1 .0))
+    let at = c .before .before .before .before .before .before .before .before .before in
+    let a = called at .args in
+    let p = called at .pre in
+    let x = at .one-turn in
+    turned (a .s) (a .input .now) (a .table .now) (a .answer .now) (p .order) (p .within) (p .to-take .few) (x .result) (a .out .now)
+    (x .last .1 .1 .1 .0) (x .last .1 .1 .1 .1 .0) (x .last .1 .1 .1 .1 .1 .0) _ (x .ensures)
+    (ap (λ (n : ℕ). (x .result .waits || x .result .stops) || ltb (n - x .result .end) mostText) (x .kept .1 .1 .1 .1 .1 .0))
 
 pub turn-spec : {M : Type 1} → statement M
 turn-spec =

@@ -1,7 +1,7 @@
 -- `apply` leaves what `applied` gives: on a refusal everything as it was, else what a granted request leaves.
 -- By the verdict's two cases.
 use mathlib.Core.Path.{sym, _∙_}
-use Rattle.engine.proofs.ApplyLaws.{refused-applied, granted-applied}
+use Rattle.engine.proofs.CallLaws.{refused-applied, granted-applied}
 use borrow.Author.Needs.{needs}
 use Rattle.engine.proofs.apply.apply.Statement.{statement}
 use Rattle.engine.proofs.apply.apply.Tie as tie

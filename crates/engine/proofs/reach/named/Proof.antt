@@ -9,7 +9,7 @@ use lib.Dec.{eqb}
 use Rattle.octets.specs.Runs.{gets}
 use Rattle.octets.specs.Numbers.{be}
 use Rattle.octets.specs.Turned.{turned}
-use Rattle.rules.specs.Layout.{itemSize}
+use Rattle.rules.specs.Layout.{current, itemSize}
 use Rattle.engine.specs.Reach.{keysIn, namedBy}
 use Rattle.engine.specs.declared.reach.Naming.{Naming}
 use Rattle.engine.proofs.Searching.{by-keys}
@@ -30,7 +30,7 @@ module _ (s : Naming) (x : ℕ) where
 
 -- the item that is looked at
 abbrev item : tie.Start → ℕ
-item p = be (gets (p .args .req .now) (p .args .at) itemSize)
+item p = be (gets (p .args .req .now) (p .args .at) (itemSize current))
 
 abbrev called : tie.Else2 → tie.Start
 called c = c .before .before .before .before .before
@@ -40,6 +40,9 @@ past-first c = c .before .before .before .before
 
 abbrev past-second : tie.Else6 → tie.Else4
 past-second c = c .before .before .before .before
+
+abbrev called-with : tie.Else6 → tie.Start
+called-with c = called (past-first (past-second c))
 
 -- ---- a key that did not match
 
@@ -53,7 +56,7 @@ not-second c =
     not-first (past-first c) ∙ rw (ne-eqb _ _ (c .before .before .if3 .left), sym (c .before .says642 .ensures) ∙ c .if4 .left)
 
 not-third : (c : tie.Else6)
-    → namedBy (called (past-first (past-second c)) .args .s) (item (called (past-first (past-second c)))) ≡ by-fourth (called (past-first (past-second c)) .args .s) (item (called (past-first (past-second c))))
+    → namedBy (called-with c .args .s) (item (called-with c)) ≡ by-fourth (called-with c .args .s) (item (called-with c))
 not-third c =
     not-second (past-second c) ∙ rw (ne-eqb _ _ (c .before .before .if5 .left), sym (c .before .says643 .ensures) ∙ c .if6 .left)
 

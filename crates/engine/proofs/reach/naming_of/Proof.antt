@@ -1,4 +1,5 @@
 -- `naming_of` reads what names a cell by the kind of area: each way out is its case of `namingOf` and of `names`.
+use mathlib.Core.Bool.{or-false}
 use mathlib.Core.Path.{_∙_}
 use borrow.Author.Needs.{needs}
 use lib.Dec.{eqb}
@@ -6,12 +7,15 @@ use Rattle.rules.specs.Lists.{any, oneOf}
 use Rattle.rules.proofs.KindAreaLaws.{names-cell, names-tracking, names-emergency, names-other}
 use Rattle.cell_read.specs.Places.{areasIn}
 use Rattle.engine.specs.Reach.{turnedKeys, namingOf}
-use Rattle.engine.proofs.Searching.{or-false, no-keys}
+use Rattle.engine.proofs.Searching.{no-keys}
 use Rattle.engine.proofs.reach.naming_of.Statement.{statement}
 use Rattle.engine.proofs.reach.naming_of.Tie as tie
 
 identity-requires : tie.Need-identity-requires
 identity-requires c κs = search needs
+
+cell-item-requires : tie.Need-cell-item-requires
+cell-item-requires c κs = search needs
 
 keyed-requires : tie.Need-keyed-requires
 keyed-requires c κs = search needs
@@ -19,11 +23,12 @@ keyed-requires c κs = search needs
 returns : tie.Need-returns
 unfolding turnedKeys namingOf oneOf any
 returns c =
-    let cells = c .before .before .if1 .taken in
-    let read = c .before .identity .ensures in
+    let cells = c .before .before .before .if1 .taken in
+    let named = c .before .cell-item .ensures in
+    let read = c .before .before .identity .ensures in
     record {
-      keys = c .keyed .ensures .0 ∙ rw (cells, read);
-      meant = λ x. c .keyed .ensures .1 x ∙ rw (names-cell _ _ x cells, read, or-false (eqb x _));
+      keys = c .keyed .ensures .0 ∙ rw (cells, named, read);
+      meant = λ x. c .keyed .ensures .1 x ∙ rw (names-cell _ _ x cells, named, read, or-false (eqb x _));
     }
 
 tracking-requires : tie.Need-tracking-requires
@@ -89,6 +94,7 @@ naming-of-spec =
     tie.close
     (tie.spec
     identity-requires
+    cell-item-requires
     keyed-requires
     returns
     tracking-requires

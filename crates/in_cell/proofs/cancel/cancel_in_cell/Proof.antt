@@ -9,6 +9,19 @@ use borrow.Author.Needs.{needs}
 use Rattle.in_cell.proofs.cancel.cancel_in_cell.Statement.{statement}
 use Rattle.in_cell.proofs.cancel.cancel_in_cell.Tie as tie
 
+-- the stages: the call; without flag 2
+abbrev Called : Type 0
+Called = tie.Start
+
+abbrev One : Type 0
+One = tie.Else1
+
+abbrev called : One → Called
+called c = c .before .before .before .before
+
+small : (c : One) → called c .args .request .serial < 65536
+small c = omega arith
+
 cancels-all-requires : tie.Need-cancels-all-requires
 cancels-all-requires c κs = search needs
 
@@ -23,8 +36,10 @@ same-length-2 c = search needs
 
 returns : tie.Need-returns
 returns c =
-    let all = sym (c .before .before .before .before .before .before .before .before .cancels-all .ensures) ∙ c .before .before .before .before .before .before .before .if1 .taken in
-    rw (cancel-every (c .before .before .before .before .before .before .before .before .before .before .before .args .request) _ all) (c .before .before .before .before .failure-in-cell .ensures)
+    let failed = c .before .before .before .before in
+    let all = failed .before .before .before in
+    let flag = sym (all .before .cancels-all .ensures) ∙ all .if1 .taken in
+    rw (cancel-every (all .before .before .before .before .args .request) _ flag) (failed .failure-in-cell .ensures)
 
 text-requires : tie.Need-text-requires
 text-requires c κs = search needs
@@ -40,12 +55,13 @@ same-length-4 c = search needs
 
 returns-2 : tie.Need-returns-2
 returns-2 c =
-    let s = c .before .before .before .before .before .before .before .before .before .before .before .before in
-    let one = sym (c .before .before .before .before .before .before .before .before .before .cancels-all .ensures) ∙ c .before .before .before .before .before .before .before .before .if1 .left in
-    let small : s .args .request .serial < 65536 = omega arith in
-    let each = ready-small (s .args .cell .now) (s .args .out .now) 1 (s .pre) (λ i. c .before .before .before .before .before .before .before .before .before .before .before .slice-known .given i .fits) in
+    let stopped = c .before .before .before .before in
+    let one = stopped .before .before .before .before in
+    let s = called one in
+    let flag = sym (one .before .cancels-all .ensures) ∙ one .if1 .left in
+    let each = ready-small (s .args .cell .now) (s .args .out .now) 1 (s .pre) (λ i. one .before .before .before .slice-known .given i .fits) in
     let apart = ready-apart (s .args .cell .now) (s .args .out .now) 1 (s .pre) in
-    rw (cancel-one (s .args .request) _ one small each apart, ← c .before .before .before .before .before .before .text .ensures) (c .before .before .before .before .cancel-text .ensures)
+    rw (cancel-one (s .args .request) _ flag (small one) each apart, ← stopped .before .before .text .ensures) (stopped .cancel-text .ensures)
 
 pub cancel-in-cell-spec : {M : Type 1} → statement M
 cancel-in-cell-spec =

@@ -28,9 +28,12 @@ same-length-2 c = search needs
 
 returns : tie.Need-returns
 returns c =
-    let s = c .before .before .before .before .before .before .before .before .before .before .before .before .before .before in
-    let live = sym (c .before .before .before .before .before .before .before .before .before .before .is-live .ensures) ∙ c .before .before .before .before .before .before .before .before .before .if1 .taken in
-    told _ (s .args .cell .now) (s .args .out .now) [] 0 (failure-live _ live) _ _ (c .before .before .free-all .ensures) (c .before .before .before .before .before .before .report .ensures)
+    let freed = c .before .before in
+    let rowed = freed .before .before .before .before in
+    let looked = rowed .before .before .before in
+    let s = looked .before .before .before .before .before in
+    let live = sym (looked .before .is-live .ensures) ∙ looked .if1 .taken in
+    told _ (s .args .cell .now) (s .args .out .now) [] 0 (failure-live _ live) _ _ (freed .free-all .ensures) (rowed .report .ensures)
 
 same-length-3 : tie.Need-same-length-3
 same-length-3 c = search needs
@@ -39,7 +42,8 @@ returns-2 : tie.Need-returns-2
 returns-2 c =
     let s = c .before .before .before .before .before in
     let free = sym (c .before .is-live .ensures) ∙ c .if1 .left in
-    idle _ (s .args .cell .now) (s .args .out .now) (ready-formed (s .args .cell .now) (s .args .out .now) 1 (s .pre) (λ i. c .before .before .before .before .slice-known .given i .fits)) (failure-free _ free)
+    let formed = ready-formed (s .args .cell .now) (s .args .out .now) 1 (s .pre) (λ i. c .before .before .before .before .slice-known .given i .fits) in
+    idle _ (s .args .cell .now) (s .args .out .now) formed (failure-free _ free)
 
 pub failure-in-cell-spec : {M : Type 1} → statement M
 failure-in-cell-spec =

@@ -2,7 +2,6 @@
 -- What each call read or stored, handed to `aired`.
 use mathlib.Core.Path.{ap, _∙_}
 use Rattle.rules.specs.declared.Broadcasts.{Broadcasts}
-use Rattle.rules.specs.declared.CellIdentity.{CellIdentity}
 use Rattle.in_cell.proofs.Airing.{aired}
 use borrow.Author.Needs.{needs}
 use Rattle.in_cell.proofs.second.air.Statement.{statement}
@@ -49,17 +48,24 @@ same-length-2 c = search needs
 
 returns : tie.Need-returns
 returns c =
-    let s = c .before .before .before .before .before .before .before .before .before .before .before .before .before .before .before .before .before .before .before .before .before in
-    let terms = c .before .before .before .before .before .before .before .before .before .before .before .before .before .before .before .before .before .terms-of .ensures in
+    let rowed = c .before .before .before in
+    let stored = rowed .before .before .before .before in
+    let read = stored .before .before in
+    let named = read .before .before in
+    let less = named .before .before in
+    let more = less .before in
+    let counted = more .before in
+    let terms = counted .before .before in
+    let s = terms .before .before .before .before in
     aired (s .args .cell .now) (s .args .out .now) (s .args .k) (s .args .n) (s .pre) _ _ _ _ _
-    (c .before .before .before .before .before .before .before .before .before .before .before .before .before .before .one-more .ensures ∙ rw (c .before .before .before .before .before .before .before .before .before .before .before .before .before .before .before .sent .ensures))
-    (c .before .before .before .before .before .before .before .before .before .before .before .before .before .one-less .ensures ∙ rw (terms .0))
-    (ap (λ (x : Broadcasts). x .0) (terms .1))
-    (ap (λ (x : CellIdentity). x .0) (c .before .before .before .before .before .before .before .before .before .before .before .identity .ensures))
-    (c .before .before .before .before .before .before .before .before .before .content .ensures)
+    (more .one-more .ensures ∙ rw (counted .sent .ensures))
+    (less .one-less .ensures ∙ rw (terms .terms-of .ensures .0))
+    (ap (λ (x : Broadcasts). x .0) (terms .terms-of .ensures .1))
+    (named .identity .ensures)
+    (read .content .ensures)
     _ _
-    (c .before .before .before .before .before .before .before .set-counts .ensures)
-    (c .before .before .before .put-row .ensures)
+    (stored .set-counts .ensures)
+    (rowed .put-row .ensures)
     _
     (c .all-sent .ensures)
 

@@ -1,14 +1,17 @@
 -- `all_later` makes every live place a second later, with a row for each broadcast, and counts the texts that have ended.
 -- The invariant, `Ticking`, says what is left to be done; a turn broadcasts the next place or lets it wait, and at a free place nothing is left.
 use mathlib.Core.Path.{_≡_, sym, ap, _∙_}
-use Prim.Native.Nat.{_-_}
+use Prim.Native.Nat.{_-_, _<_}
 use native.Mathlib.Omega.{arith}
 use borrow.Author.Needs.{needs}
+use lib.ListN.{length}
 use Rattle.rules.specs.Layout.{placesPerCell}
 use Rattle.rules.specs.declared.Seconds.{Seconds}
+use Rattle.cell_read.specs.Places.{livePlaces, placeAt}
 use Rattle.cell_read.proofs.PlacesLaws.{live-few, live-at}
 use Rattle.in_cell.proofs.Passing.{is-live, is-free}
-use Rattle.in_cell.proofs.Ticking.{Ticking, ticks-start, tick-to-air, tick-airs, tick-waits, tick-ends}
+use Rattle.in_cell.proofs.Ticking.{Ticking, ticks-start}
+use Rattle.in_cell.proofs.TickTurns.{tick-to-air, tick-airs, tick-waits, tick-ends}
 use Rattle.in_cell.proofs.second.all_later.Statement.{statement}
 use Rattle.in_cell.proofs.second.all_later.Tie as tie
 
@@ -21,6 +24,34 @@ Inv-places cell₀ out₀ rows₀ gone₀ k₀ cell out rows gone k = Ticking ce
 abbrev μ-places : tie.MeasureT-places
 μ-places cell₀ out₀ rows₀ gone₀ k₀ cell out rows gone k = placesPerCell - k
 
+-- the stages: a turn; its place, which is live; a place to broadcast, and one that waits
+abbrev Turn : Type 0
+Turn = tie.At-places Inv-places μ-places
+
+abbrev Live : Type 0
+Live = tie.Else1 Inv-places μ-places
+
+abbrev Due : Type 0
+Due = tie.Then2 Inv-places μ-places
+
+abbrev Waits : Type 0
+Waits = tie.Else2 Inv-places μ-places
+
+abbrev turn : Live → Turn
+turn l = l .before .before .before .before
+
+abbrev due-live : Due → Live
+due-live d = d .before .before .before .before
+
+abbrev waits-live : Waits → Live
+waits-live w = w .before .before .before .before
+
+live : (l : Live) → turn l .places .k < length (livePlaces (turn l .places .cell))
+live l = is-live (l .before .is-live .ensures) (l .if1 .left)
+
+due : (d : Due) → placeAt (turn (due-live d) .places .cell) (turn (due-live d) .places .k) .wait .0 ≡ 0
+due d = sym (seconds (d .before .before .wait .ensures)) ∙ d .if2 .taken
+
 places-holds : tie.Need-places-holds Inv-places μ-places
 places-holds c = ticks-start (c .before .before .args .cell .now) (c .before .before .args .out .now) (λ i. c .before .slice-known .given i .fits) (c .before .before .pre)
 
@@ -31,48 +62,51 @@ add-k : tie.Need-add-k Inv-places μ-places
 add-k c = search needs
 
 wait-requires : tie.Need-wait-requires Inv-places μ-places
-wait-requires c κs =
-    let live = is-live (c .before .before .is-live .ensures) (c .before .if1 .left) in
-    live-at _ (c .before .before .before .before .before .places .inv .formed) _ live
+wait-requires c κs = let l = c .before in live-at _ (turn l .places .inv .formed) _ (live l)
 
 air-requires : tie.Need-air-requires Inv-places μ-places
 air-requires c κs =
-    let live = is-live (c .before .before .before .before .before .before .before .is-live .ensures) (c .before .before .before .before .before .before .if1 .left) in
-    let due = sym (seconds (c .before .before .before .before .wait .ensures)) ∙ c .before .before .if2 .taken in
-    tick-to-air (c .before .before .before .before .before .before .before .before .before .before .places .inv) live due
+    let d = c .before .before in
+    tick-to-air (turn (due-live d) .places .inv) (live (due-live d)) (due d)
 
 add-gone : tie.Need-add-gone Inv-places μ-places
-add-gone c = omega (arith, c .before .before .before .before .air .ensures .one, c .before .before .before .before .before .before .before .before .before .before .before .before .before .before .before .places .inv .ticks .few-gone)
+add-gone c =
+    let aired = c .before .before .before .before in
+    let d = aired .before .before .before in
+    omega (arith, aired .air .ensures .one, turn (due-live d) .places .inv .ticks .few-gone)
 
 add-rows : tie.Need-add-rows Inv-places μ-places
-add-rows c = omega (arith, c .before .before .before .before .before .before .before .before .before .before .before .before .before .before .before .places .inv .ticks .few-rows)
+add-rows c =
+    let d = c .before .before .before .before .before .before .before in
+    omega (arith, turn (due-live d) .places .inv .ticks .few-rows)
 
 places-less : tie.Need-places-less Inv-places μ-places
 places-less c = search needs
 
 places-again : tie.Need-places-again Inv-places μ-places
 places-again c =
-    let live = is-live (c .before .before .before .before .before .before .before .before .before .before .before .before .is-live .ensures) (c .before .before .before .before .before .before .before .before .before .before .before .if1 .left) in
-    let due = sym (seconds (c .before .before .before .before .before .before .before .before .before .wait .ensures)) ∙ c .before .before .before .before .before .before .before .if2 .taken in
-    tick-airs (c .before .before .before .before .before .before .before .before .before .before .before .before .before .before .before .places .inv) live due _ _ _ (c .before .before .before .before .air .ensures)
+    let aired = c .before .before .before .before in
+    let d = aired .before .before .before in
+    tick-airs (turn (due-live d) .places .inv) (live (due-live d)) (due d) _ _ _ (aired .air .ensures)
 
 one-less-requires : tie.Need-one-less-requires Inv-places μ-places
 one-less-requires c κs = search needs
 
 set-wait-requires : tie.Need-set-wait-requires Inv-places μ-places
 set-wait-requires c κs =
-    let inv = c .before .before .before .before .before .before .before .before .before .before .places .inv in
-    let live = is-live (c .before .before .before .before .before .before .before .is-live .ensures) (c .before .before .before .before .before .before .if1 .left) in
-    live-at _ (inv .formed) _ live
+    let l = waits-live (c .before .before) in
+    live-at _ (turn l .places .inv .formed) _ (live l)
 
 places-less-2 : tie.Need-places-less-2 Inv-places μ-places
 places-less-2 c = search needs
 
 places-again-2 : tie.Need-places-again-2 Inv-places μ-places
 places-again-2 c =
-    let live = is-live (c .before .before .before .before .before .before .before .before .before .before .is-live .ensures) (c .before .before .before .before .before .before .before .before .before .if1 .left) in
-    let left = c .before .before .before .before .before .before .before .wait .ensures in
-    tick-waits (c .before .before .before .before .before .before .before .before .before .before .before .before .before .places .inv) live (λ e. c .before .before .before .before .before .if2 .left (seconds left ∙ e)) _ (c .before .before .before .one-less .ensures ∙ rw left) _ (c .before .before .set-wait .ensures)
+    let stored = c .before .before in
+    let w = stored .before .before .before in
+    let l = waits-live w in
+    let left = w .before .before .wait .ensures in
+    tick-waits (turn l .places .inv) (live l) (λ e. w .if2 .left (seconds left ∙ e)) _ (stored .before .one-less .ensures ∙ rw left) _ (stored .set-wait .ensures)
 
 same-length : tie.Need-same-length Inv-places μ-places
 same-length c = search needs

@@ -5,6 +5,7 @@ use mathlib.Core.Bool.{true, false}
 use native.Mathlib.Omega.{arith}
 use borrow.Author.Tests.{not-true, not-false}
 use Rattle.rules.specs.Record.{concurrent}
+use Rattle.cell_read.specs.Places.{OnePlace}
 use Rattle.in_cell.proofs.ReadyLaws.{ready-formed}
 use Rattle.in_cell.proofs.StartLaws.{Begun, begun, new-one, start-repeats, free-here, free-first, start-alone, start-behind, start-nowhere}
 use borrow.Author.Needs.{needs}
@@ -13,18 +14,26 @@ use Rattle.in_cell.proofs.start.start_in_cell.Tie as tie
 
 -- ---- behind the search
 
-abbrev entry : tie.After-seek → tie.Start
-entry k = k .before .before .before .before .before .before
+abbrev Sought : Type 0
+Sought = tie.After-seek
 
-sought : (k : tie.After-seek) → Begun (entry k .args .cell .now) (entry k .args .out .now) (entry k .args .new .now) (entry k .args .request) (k .seek .result .at) (k .seek .result .found)
+abbrev called : Sought → tie.Start
+called k = k .before .before .before .before .before .before
+
+sought : (k : Sought) → Begun (called k .args .cell .now) (called k .args .out .now) (called k .args .new .now) (called k .args .request) (k .seek .result .at) (k .seek .result .found)
 sought k =
-    begun (entry k .args .cell .now) (entry k .args .out .now) (entry k .args .new .now) (entry k .args .request) (entry k .pre) (λ i. k .before .before .before .before .before .slice-known .given i .fits) (omega arith) (k .before .text .ensures) (k .seek .ensures)
+    let s = called k in
+    let bytes = k .before .before .before .before .before .slice-known in
+    begun (s .args .cell .now) (s .args .out .now) (s .args .new .now) (s .args .request) (s .pre) (λ i. bytes .given i .fits) (omega arith) (k .before .text .ensures) (k .seek .ensures)
+
+one : (k : Sought) → OnePlace (called k .args .new .now)
+one k = new-one (called k .args .request) (called k .args .new .now) (called k .pre .1)
 
 -- flag 1 is absent, or there
-alone : (c : tie.Then2) → concurrent (entry (c .before .before .before) .args .request) ≡ false
+alone : (c : tie.Then2) → concurrent (called (c .before .before .before) .args .request) ≡ false
 alone c = sym (c .before .concurrent .ensures) ∙ not-true _ (c .if2 .taken)
 
-more : (c : tie.Else2) → concurrent (entry (c .before .before .before) .args .request) ≡ true
+more : (c : tie.Else2) → concurrent (called (c .before .before .before) .args .request) ≡ true
 more c = sym (c .before .concurrent .ensures) ∙ not-false _ (c .if2 .left)
 
 -- ---- the steps
@@ -47,7 +56,10 @@ same-length-2 : tie.Need-same-length-2
 same-length-2 c = search needs
 
 returns : tie.Need-returns
-returns c = start-repeats (sought (c .before .before .before .before .before .before)) (c .before .before .before .before .before .if1 .taken) (c .before .before .report .ensures)
+returns c =
+    let told = c .before .before in
+    let found = told .before .before .before in
+    start-repeats (sought (found .before)) (found .if1 .taken) (told .report .ensures)
 
 concurrent-requires : tie.Need-concurrent-requires
 concurrent-requires c κs = search needs
@@ -60,8 +72,10 @@ free-all-requires c κs = search needs
 
 add-place-requires : tie.Need-add-place-requires
 add-place-requires c κs =
-    let k = c .before .before .before .before .before .before .before .before .before .before .before .before .before in
-    (free-first (sought k) (c .before .before .before .before .before .before .before .before .before .before .before .before .if1 .left) (alone (c .before .before .before .before .before .before .before .before .before .before)) (c .before .before .before .free-all .ensures), new-one (entry k .args .request) (entry k .args .new .now) (entry k .pre .1))
+    let freed = c .before .before .before in
+    let l = freed .before .before .before .before .before .before .before in
+    let absent = l .before .before in
+    (free-first (sought (absent .before)) (absent .if1 .left) (alone l) (freed .free-all .ensures), one (absent .before))
 
 same-length-3 : tie.Need-same-length-3
 same-length-3 c = search needs
@@ -71,15 +85,21 @@ same-length-4 c = search needs
 
 returns-2 : tie.Need-returns-2
 returns-2 c =
-    start-alone (sought (c .before .before .before .before .before .before .before .before .before .before .before .before .before .before .before .before)) (c .before .before .before .before .before .before .before .before .before .before .before .before .before .before .before .if1 .left) (alone (c .before .before .before .before .before .before .before .before .before .before .before .before .before)) (c .before .before .before .before .before .before .free-all .ensures) (c .before .before .add-place .ensures) (c .before .before .before .before .before .before .before .before .before .before .report2 .ensures)
+    let added = c .before .before in
+    let freed = added .before .before .before .before in
+    let told = freed .before .before .before .before in
+    let l = told .before .before .before in
+    let absent = l .before .before in
+    start-alone (sought (absent .before)) (absent .if1 .left) (alone l) (freed .free-all .ensures) (added .add-place .ensures) (told .report2 .ensures)
 
 report-requires-3 : tie.Need-report-requires-3
 report-requires-3 c κs = search needs
 
 add-place-requires-2 : tie.Need-add-place-requires-2
 add-place-requires-2 c κs =
-    let k = c .before .before .before .before .before .before .before .before .before .before in
-    (free-here (sought k) (c .before .before .before .before .before .before .before .before .before .if1 .left) (c .before .before .before .before .before .before .if3 .taken), new-one (entry k .args .request) (entry k .args .new .now) (entry k .pre .1))
+    let room = c .before .before .before .before .before .before in
+    let absent = room .before .before .before in
+    (free-here (sought (absent .before)) (absent .if1 .left) (room .if3 .taken), one (absent .before))
 
 same-length-5 : tie.Need-same-length-5
 same-length-5 c = search needs
@@ -89,13 +109,19 @@ same-length-6 c = search needs
 
 returns-3 : tie.Need-returns-3
 returns-3 c =
-    start-behind (sought (c .before .before .before .before .before .before .before .before .before .before .before .before .before)) (c .before .before .before .before .before .before .before .before .before .before .before .before .if1 .left) (more (c .before .before .before .before .before .before .before .before .before .before)) (c .before .before .before .before .before .before .before .before .before .if3 .taken) (c .before .before .add-place2 .ensures) (c .before .before .before .before .before .before .report3 .ensures)
+    let added = c .before .before in
+    let told = added .before .before .before .before in
+    let room = told .before .before .before in
+    let absent = room .before .before .before in
+    start-behind (sought (absent .before)) (absent .if1 .left) (more (room .before)) (room .if3 .taken) (added .add-place2 .ensures) (told .report3 .ensures)
 
 same-length-7 : tie.Need-same-length-7
 same-length-7 c = search needs
 
 returns-4 : tie.Need-returns-4
-returns-4 c = start-nowhere (sought (c .before .before .before .before)) (c .before .before .before .if1 .left) (more (c .before)) (c .if3 .left)
+returns-4 c =
+    let absent = c .before .before .before in
+    start-nowhere (sought (absent .before)) (absent .if1 .left) (more (c .before)) (c .if3 .left)
 
 pub start-in-cell-spec : {M : Type 1} → statement M
 start-in-cell-spec =

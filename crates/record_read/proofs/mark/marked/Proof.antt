@@ -2,7 +2,7 @@
 -- The wide read and the byte say what the fields 0 and 1 do: `mark-taken`.
 use borrow.Author.Tests.{lt-leb}
 use Rattle.rules.specs.Record.{recordMarked}
-use Rattle.record_read.proofs.ReadLaws.{mark-taken}
+use Rattle.record_read.proofs.FieldReads.{mark-taken}
 use borrow.Author.Needs.{needs}
 use Rattle.record_read.proofs.mark.marked.Statement.{statement}
 use Rattle.record_read.proofs.mark.marked.Tie as tie

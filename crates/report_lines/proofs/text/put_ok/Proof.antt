@@ -19,10 +19,14 @@ same-length c = search needs
 
 returns : tie.Need-returns
 returns c =
-    let w = c .before .before .before .before .before .before .before .before .before .before .put-word .ensures in
-    let k = c .before .before .before .before .before .before .put-number .ensures in
-    let n = c .before .before .put-number2 .ensures in
-    (ok-said (c .before .before .before .before .before .before .before .before .before .before .before .before .before .args .kind) (c .before .before .before .before .before .before .before .before .before .before .before .before .before .args .rows) w (k .0) (n .0), omega (arith, w .ends, k .1, n .1))
+    let rows = c .before .before in
+    let kind = rows .before .before .before .before in
+    let word = kind .before .before .before .before in
+    let a = word .before .before .before .args in
+    let w = word .put-word .ensures in
+    let k = kind .put-number .ensures in
+    let n = rows .put-number2 .ensures in
+    (ok-said (a .kind) (a .rows) w (k .0) (n .0), omega (arith, w .ends, k .1, n .1))
 
 pub put-ok-spec : {M : Type 1} → statement M
 put-ok-spec =

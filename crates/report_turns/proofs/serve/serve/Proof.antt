@@ -29,7 +29,8 @@ lies c =
     let a = called x .args in
     let table-bytes = x .before .before .before .before .before .before .slice-known in
     let record-bytes = x .before .before .before .before .before .shared-slice-known in
-    written-lies (a .table .now) (a .req .now) (a .answer .now) (λ i. table-bytes .given i .fits) (λ i. record-bytes .given i .fits) (x .apply .result) (c .length .given .0 .0) (x .apply .last .0) (x .apply .last .1 .1 .0) (x .apply .ensures) (c .length .given .1)
+    written-lies (a .table .now) (a .req .now) (a .answer .now) (λ i. table-bytes .given i .fits) (λ i. record-bytes .given i .fits)
+    (x .apply .result) (c .length .given .0 .0) (x .apply .last .0) (x .apply .last .1 .1 .0) (x .apply .ensures) (c .length .given .1)
 
 apply-requires : tie.Need-apply-requires
 apply-requires c κs = search needs
@@ -80,7 +81,8 @@ returns c =
     let a = called x .args in
     let p = put .put-answer in
     let few = rows-fit (lies written) (rw (x .apply .kept .1 .1 .0) (called x .pre .0)) in (
-      served-ok (a .table .now) (a .req .now) (a .answer .now) (x .apply .last .0) (x .apply .last .1 .1 .0) (a .out .now) (p .last .0) (a .at) (p .result) (x .apply .result) (x .apply .ensures) (written .length .given .0 .0) (written .length .given .1) (p .ensures .0),
+      served-ok (a .table .now) (a .req .now) (a .answer .now) (x .apply .last .0) (x .apply .last .1 .1 .0) (a .out .now) (p .last .0) (a .at) (p .result)
+          (x .apply .result) (x .apply .ensures) (written .length .given .0 .0) (written .length .given .1) (p .ensures .0),
       omega (arith, p .ensures .1, few),
     )
 
@@ -101,7 +103,9 @@ returns-2 c =
     let x = refused .before .before .before .before .before .before in
     let a = called x .args in
     let p = put .put-no in (
-      served-no (a .table .now) (a .req .now) (a .answer .now) (x .apply .last .0) (x .apply .last .1 .1 .0) (a .out .now) (p .last .0) (a .at) (p .result) (x .apply .result) (x .apply .ensures) (refused .refusal .given .0 .0) (number .number .result) (c .stops-at .result) (refused .refusal .given .1) (number .number .ensures) (c .stops-at .ensures) (p .ensures .0),
+      served-no (a .table .now) (a .req .now) (a .answer .now) (x .apply .last .0) (x .apply .last .1 .1 .0) (a .out .now) (p .last .0) (a .at) (p .result)
+          (x .apply .result) (x .apply .ensures) (refused .refusal .given .0 .0) (number .number .result) (c .stops-at .result)
+          (refused .refusal .given .1) (number .number .ensures) (c .stops-at .ensures) (p .ensures .0),
       omega arith,
     )
 
