@@ -9,8 +9,7 @@ use lib.Dec.{eqb}
 use borrow.Author.Tests.{eqb-true, eq-eqb}
 use Rattle.octets.specs.Runs.{gets, Bytes}
 use Rattle.octets.specs.Numbers.{be}
-use Rattle.octets.proofs.RunsLaws.{length-gets, bytes-gets}
-use Rattle.octets.proofs.NumbersLaws.{be-lt, be-run}
+use Rattle.octets.proofs.NumbersLaws.{be-gets-lt, be-run}
 
 -- two tests that hold together or not at all
 same-test : (a b : Bool) → (a ≡ true → b ≡ true) → (b ≡ true → a ≡ true) → a ≡ b
@@ -21,9 +20,6 @@ same-test false false f g = refl
 two-tests : (a b : Bool) → a && b ≡ true → (a ≡ true) × (b ≡ true)
 two-tests true b e = (refl, e)
 two-tests false b e = absurd (false≢true e)
-
-byte-small : (l : List ℕ) → Bytes l → (i : ℕ) → be (gets l i 1) < 256
-byte-small l b i = rw (length-gets 1 l i) at (be-lt (gets l i 1) (bytes-gets 1 l i b))
 
 module _ (l : List ℕ) (b : Bytes l) (mark version : ℕ) (small : version < 256) where
   abbrev wide : Bool
@@ -44,7 +40,7 @@ module _ (l : List ℕ) (b : Bytes l) (mark version : ℕ) (small : version < 25
       let t = two-tests (eqb (be (gets l 0 4)) (mark * 256)) (eqb (be (gets l 4 1)) version) e in
       let x = eqb-true (be (gets l 0 4)) (mark * 256) (t .0) in
       let y = eqb-true (be (gets l 4 1)) version (t .1) in
-      let h = byte-small l b 3 in
+      let h = be-gets-lt 1 3 l b in
       rw (
         eq-eqb (be (gets l 0 3)) mark (omega (arith, x, first, h)),
         eq-eqb (be (gets l 3 2)) version (omega (arith, x, y, first, second, h)),

@@ -2,7 +2,7 @@
 -- The first and the last hold the bytes that stood there; in the second the period, in the third the wait has two zero bytes in front.
 use mathlib.Core.Path.{_≡_, refl, sym, ap, _∙_}
 use mathlib.Core.List.{List, [], _∷_, _++_, append-assoc, append-nil}
-use Prim.Native.Nat.{ℕ, _+_, _*_, _/_, _^_, _≤_, _<_}
+use Prim.Native.Nat.{ℕ, _+_, _*_, _/_, _^_, _≤_}
 use native.Mathlib.Nat.{add-zero}
 use native.Mathlib.Omega.{arith}
 use lib.ListN.{length, getD, length-append}
@@ -11,7 +11,7 @@ use Rattle.octets.specs.Runs.{gets, Bytes}
 use Rattle.octets.specs.Numbers.{be, toBe}
 use Rattle.octets.specs.Fields.{numbers, bytesOf, offset, fieldOf}
 use Rattle.octets.proofs.RunsLaws.{length-gets, gets-gets, gets-run, bytes-gets, sets-run}
-use Rattle.octets.proofs.NumbersLaws.{length-toBe, toBe-gets, toBe-join, be-lt, be-run}
+use Rattle.octets.proofs.NumbersLaws.{length-toBe, toBe-gets, toBe-join, be-gets-lt, be-run}
 use Rattle.octets.proofs.FieldsLaws.{field-at, field-within}
 use Rattle.rules.specs.Layout.{version1, periodInPlace, placeFields, placeSize}
 use Rattle.rules.proofs.LayoutLaws.{place-size}
@@ -33,9 +33,6 @@ module _ (b : List ℕ) (long : length b ≡ placeSize version1) where
   parts = rw (at 0, at 1, at 2, at 3, at 4, at 5, at 6, at 7, at 8, at 9)
 
   module _ (bytes : Bytes b) where
-    below : (n i : ℕ) → be (gets b i n) < 256 ^ n
-    below n i = rw length-gets at (be-lt (gets b i n) (bytes-gets n b i bytes))
-
     -- identifier, serial number and content
     first : toBe 2 (be (gets b 0 2)) ++ (toBe 2 (be (gets b 2 2)) ++ toBe 4 (be (gets b 4 4))) ≡ toBe 8 (be (gets b 0 8))
     first =
@@ -48,10 +45,10 @@ module _ (b : List ℕ) (long : length b ≡ placeSize version1) where
 
     second : toBe 4 (be (gets b 8 2)) ++ (toBe 2 (be (gets b 10 2)) ++ toBe 2 (be (gets b 12 2))) ≡ toBe 8 (be (gets b 8 8) / 65536)
     second =
-        let p = below 2 8 in
-        let r = below 2 10 in
-        let s = below 2 12 in
-        let w = below 2 14 in
+        let p = be-gets-lt 2 8 b bytes in
+        let r = be-gets-lt 2 10 b bytes in
+        let s = be-gets-lt 2 12 b bytes in
+        let w = be-gets-lt 2 14 b bytes in
         rw (toBe-join 2 2 (be (gets b 10 2)) (be (gets b 12 2)) r s, toBe-join 4 4 (be (gets b 8 2)) (be (gets b 10 2) * 256 ^ 2 + be (gets b 12 2)) (omega arith) (omega arith))
         (ap (toBe 8) (omega (arith, counts)))
 

@@ -3,14 +3,13 @@
 use mathlib.Core.Path.{_≡_, refl, sym}
 use mathlib.Core.Bool.{Bool, true, false, not, _&&_, _||_}
 use mathlib.Core.List.{List, [], _∷_}
-use Prim.Native.Nat.{ℕ, _^_, _<_}
+use Prim.Native.Nat.{ℕ}
 use native.Mathlib.Omega.{arith}
 use lib.Dec.{eqb}
-use Rattle.octets.specs.Runs.{Bytes, gets}
+use Rattle.octets.specs.Runs.{gets}
 use Rattle.octets.specs.Numbers.{be}
 use Rattle.octets.specs.Fields.{offset}
-use Rattle.octets.proofs.RunsLaws.{length-gets, bytes-gets}
-use Rattle.octets.proofs.NumbersLaws.{be-lt, be-run}
+use Rattle.octets.proofs.NumbersLaws.{be-run, be-gets-lt}
 use Rattle.octets.proofs.FieldsLaws.{field-at}
 use Rattle.rules.specs.Lists.{every, any}
 use Rattle.rules.specs.Layout.{current, identifierInPlace, serialInPlace, placeFields}
@@ -24,9 +23,6 @@ use Rattle.rules.proofs.PlaceLaws.{Small, same-text}
 abbrev pub textAt : List ℕ → ℕ
 textAt b = be (gets b 0 4)
 
-pub be-small : (n i : ℕ) (b : List ℕ) → Bytes b → be (gets b i n) < 256 ^ n
-be-small n i b h = rw length-gets at (be-lt (gets b i n) (bytes-gets n b i h))
-
 module _ (b : List ℕ) (run : PlaceRun current b) where
   pub text-of : textAt b ≡ textOf (placeOf current b)
   unfolding textOf placeOf offset
@@ -36,7 +32,7 @@ module _ (b : List ℕ) (run : PlaceRun current b) where
 
   pub small : Small (placeOf current b)
   unfolding placeOf offset
-  small = rw (field-at (placeFields current) serialInPlace b (omega (arith, run .1))) (be-small 2 2 b (run .0))
+  small = rw (field-at (placeFields current) serialInPlace b (omega (arith, run .1))) (be-gets-lt 2 2 b (run .0))
 
 -- none of the texts passed
 unfoldable pub fresh : ℕ → List ℕ → Bool

@@ -3,7 +3,7 @@
 use mathlib.Core.Path.{_≡_, refl, sym, ap, _∙_}
 use mathlib.Core.Bool.{Bool, false, _&&_, and-assoc, and-true, and-false}
 use mathlib.Core.List.{List, [], _∷_}
-use Prim.Native.Nat.{ℕ, _+_, _*_, _/_, _%_, _^_, _≤_, _<_}
+use Prim.Native.Nat.{ℕ, _+_, _*_, _/_, _%_, _≤_, _<_}
 use native.Mathlib.Nat.{add-zero, mul-le-mul-right}
 use native.Mathlib.Omega.{arith}
 use borrow.Author.Tests.{ne-eqb, lt-leb}
@@ -13,8 +13,8 @@ use lib.Seq.{length-take-le, take-all}
 use Rattle.octets.specs.Runs.{gets, Bytes}
 use Rattle.octets.specs.Numbers.{be}
 use Rattle.octets.specs.Fields.{offset, numbers, fieldOf}
-use Rattle.octets.proofs.RunsLaws.{length-gets, bytes-gets, gets-eq, gets-gets}
-use Rattle.octets.proofs.NumbersLaws.{be-lt, be-run}
+use Rattle.octets.proofs.RunsLaws.{gets-eq, gets-gets}
+use Rattle.octets.proofs.NumbersLaws.{be-gets-lt, be-run}
 use Rattle.octets.proofs.FieldsLaws.{field-at}
 use Rattle.rules.specs.Lists.{every, zeros, above, ascending}
 use Rattle.rules.specs.Layout.{current, headFields, identityInHead, headerSize, headSize, cellEnd}
@@ -101,14 +101,11 @@ areas-more used areas h = rw (lt-leb used 4 h)
 -- ---- three of four bytes
 
 module _ (l : List ℕ) (bytes : Bytes l) (i : ℕ) {x : ℕ} (e : x ≡ be (gets l i 4)) where
-  below : (n j : ℕ) → be (gets l j n) < 256 ^ n
-  below n j = rw length-gets at (be-lt (gets l j n) (bytes-gets n l j bytes))
-
   pub upper-three : x / 256 ≡ be (gets l i 3)
-  upper-three = omega (arith, e, be-run 3 1 l i (i + 3) refl, below 1 (i + 3))
+  upper-three = omega (arith, e, be-run 3 1 l i (i + 3) refl, be-gets-lt 1 (i + 3) l bytes)
 
   pub lower-three : x % 16777216 ≡ be (gets l (i + 1) 3)
-  lower-three = omega (arith, e, be-run 1 3 l i (i + 1) refl, below 3 (i + 1))
+  lower-three = omega (arith, e, be-run 1 3 l i (i + 1) refl, be-gets-lt 3 (i + 1) l bytes)
 
 -- ---- a head, a header
 

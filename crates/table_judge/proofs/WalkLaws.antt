@@ -11,6 +11,7 @@ use lib.ListN.{length}
 use Rattle.octets.specs.Runs.{Bytes, pieces}
 use Rattle.octets.specs.Fields.{fieldOf}
 use Rattle.octets.proofs.FieldsLaws.{numbers-zeros}
+use Rattle.octets.proofs.NumbersLaws.{be-gets-lt}
 use Rattle.rules.specs.Lists.{every}
 use Rattle.rules.specs.Layout.{current, liveInPlace, placeFields, placeSize, placesPerCell}
 use Rattle.rules.specs.Table.{placeOf, isFree, isLive, liveFirst, placesOf, legalPlace, textOf, running, different, legalPlaces}
@@ -19,7 +20,7 @@ use Rattle.rules.proofs.TestLaws.{by-test, cond-either}
 use Rattle.rules.proofs.AllLaws.{All, none, more}
 use Rattle.rules.proofs.PlacesCodec.{PlaceRun}
 use Rattle.table_judge.specs.Judge.{legalLive}
-use Rattle.table_judge.proofs.PassedLaws.{textAt, be-small, text-of, small, fresh, apart, apart-none, apart-cons, apart-more, small-places}
+use Rattle.table_judge.proofs.PassedLaws.{textAt, text-of, small, fresh, apart, apart-none, apart-cons, apart-more, small-places}
 
 -- ---- the live byte
 
@@ -95,7 +96,7 @@ abbrev pub noText : ℕ
 noText = 256 ^ 4
 
 no-text : (b : List ℕ) → Bytes b → eqb (textAt b) noText ≡ false
-no-text b h = ne-eqb (textAt b) noText (λ (e : textAt b ≡ noText). omega (arith, be-small 4 0 b h))
+no-text b h = ne-eqb (textAt b) noText (λ (e : textAt b ≡ noText). omega (arith, be-gets-lt 4 0 b h))
 
 walk-four : {a b c d : List ℕ} → All (PlaceRun current) (a ∷ b ∷ c ∷ d ∷ []) → walkAll [] (a ∷ b ∷ c ∷ d ∷ []) ≡ walk noText noText noText (a ∷ b ∷ c ∷ d ∷ [])
 unfolding walkAll walk fresh
