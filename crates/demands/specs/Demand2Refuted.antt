@@ -53,7 +53,7 @@ StopsText r o =
     (requestOf r .kind ≡ cancelOrKill)
     × (cancelAll (requestOf r) ≡ false)
     × (o .number ≡ 0)
-    × ((answerSize current) + (rowSize current) ≤ o .length)
+    × (answerSize current + rowSize current ≤ o .length)
 
 abbrev pub firstCount : Outcome → ℕ
 firstCount o = fieldOf (rowFields current) countInRow (drop (answerSize current) (o .answer))
@@ -92,7 +92,7 @@ refusing t r a = record { number = numberOf ShortBuffer; length = 0; table = t; 
 
 -- a head without rows to every call, though the table is right
 abbrev pub fixed : CallUnit
-fixed t r a = record { number = 0; length = (answerSize current); table = applied current t r a .table; answer = sets a 0 (answers 1 4370 16 0) }
+fixed t r a = record { number = 0; length = answerSize current; table = applied current t r a .table; answer = sets a 0 (answers 1 4370 16 0) }
 
 -- the right answer, and the table as it was
 abbrev pub unchanging : CallUnit

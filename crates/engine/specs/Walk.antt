@@ -54,5 +54,5 @@ isIdle q = eqb (q .kind) writeReplace && startsNothing q
 pub record Granted (t r a t′ a′ : List ℕ) (n : ℕ) : Type 0 where
   pub table : t′ ≡ applied current t r a .table
   pub answer : a′ ≡ applied current t r a .answer
-  pub rows : (answerSize current) + (rowSize current) * n ≡ applied current t r a .length
+  pub rows : answerSize current + rowSize current * n ≡ applied current t r a .length
   pub few : n ≤ placesPerCell * mostCells

@@ -40,7 +40,7 @@ module _ (c out : List ℕ) (k n : ℕ) (to : ToAir c out k n) (sent : Broadcast
     (e-sent : sent .0 ≡ oneMore (placeAt c k .sent) .0) (e-wait : wait .0 ≡ oneLess (placeAt c k .period) .0) (e-requested : requested ≡ placeAt c k .requested .0)
     (e-identity : identity ≡ headOf current (take (headSize current) c) .identity) (e-content : content ≡ placeAt c k .content)
     (c′ out′ : List ℕ) (e-cell : c′ ≡ withPlace c k (withCounts (placeAt c k) sent wait))
-    (e-out : out′ ≡ sets out ((rowSize current) * n) (rowBytes current (record { identity = identity; count = sent .0; content = content }))) where
+    (e-out : out′ ≡ sets out (rowSize current * n) (rowBytes current (record { identity = identity; count = sent .0; content = content }))) where
   after : later (placeAt c k) ≡ withCounts (placeAt c k) sent wait
   after =
       later-due (placeAt c k) (to .due)
@@ -60,7 +60,7 @@ module _ (c out : List ℕ) (k n : ℕ) (to : ToAir c out k n) (sent : Broadcast
   aired last e-last =
       record {
         cell = e-cell ∙ rw after;
-        row = e-out ∙ ap (λ (w : Row). sets out ((rowSize current) * n) (rowBytes current w)) (row-same identity (sent .0) content e-identity after-sent e-content);
+        row = e-out ∙ ap (λ (w : Row). sets out (rowSize current * n) (rowBytes current w)) (row-same identity (sent .0) content e-identity after-sent e-content);
         ended = rw (e-last, ← after-ends) (sym (endings-one (later (placeAt c k))));
         one = byte-one last;
       }

@@ -37,11 +37,11 @@ pub record Ticks (c₀ o₀ c o : List ℕ) (k n gone : ℕ) (passed rest : List
   pub few : k ≤ placesPerCell
   pub few-rows : n ≤ k
   pub few-gone : gone ≤ k
-  pub room : (rowSize current) * placesPerCell ≤ length o
+  pub room : rowSize current * placesPerCell ≤ length o
   pub same : length o ≡ length o₀
   pub places : map later (livePlaces c₀) ≡ passed ++ map later rest
   pub rows : length (second (livePlaces c₀) .rows) ≡ n + length (second rest .rows)
-  pub answer : sets o₀ 0 (rowsBytes c₀ (second (livePlaces c₀) .rows)) ≡ sets o ((rowSize current) * n) (rowsBytes c₀ (second rest .rows))
+  pub answer : sets o₀ 0 (rowsBytes c₀ (second (livePlaces c₀) .rows)) ≡ sets o (rowSize current * n) (rowsBytes c₀ (second rest .rows))
   pub ended : endings (map later (livePlaces c₀)) ≡ gone + endings (map later rest)
 
 pub record Ticking (c₀ o₀ c o : List ℕ) (k n gone : ℕ) : Type 0 where
@@ -80,7 +80,7 @@ module _ {c₀ o₀ c o : List ℕ} {k n gone : ℕ} {passed rest : List Place} 
   -- whether it is broadcast, and the last time, or not
   turn : (r e n′ gone′ : ℕ) (c′ o′ : List ℕ) → n′ ≡ n + r → gone′ ≡ gone + e → r ≤ 1 → e ≤ 1 → c′ ≡ withPlace c k (later p) → length o′ ≡ length o
       → length (second (p ∷ rest) .rows) ≡ r + length (second rest .rows)
-      → sets o ((rowSize current) * n) (rowsBytes c₀ (second (p ∷ rest) .rows)) ≡ sets o′ ((rowSize current) * n′) (rowsBytes c₀ (second rest .rows))
+      → sets o (rowSize current * n) (rowsBytes c₀ (second (p ∷ rest) .rows)) ≡ sets o′ (rowSize current * n′) (rowsBytes c₀ (second rest .rows))
       → endings (map later (p ∷ rest)) ≡ e + endings (map later rest)
       → Ticking c₀ o₀ c′ o′ (k + 1) n′ gone′
   turn r e n′ gone′ c′ o′ en eg r-one e-one ec same′ er ea ee =
@@ -109,11 +109,11 @@ module _ {c₀ o₀ c o : List ℕ} {k n gone : ℕ} {passed rest : List Place} 
   same-row = rw (pass-head (t .pass))
 
   pub turn-airs : isDue p ≡ true → (c′ o′ : List ℕ) (r : ℕ) → r ≤ 1 → c′ ≡ withPlace c k (later p)
-      → o′ ≡ sets o ((rowSize current) * n) (rowBytes current (rowBy (cellOf current c) (toldOf p))) → r ≡ endings (later p ∷ []) → Ticking c₀ o₀ c′ o′ (k + 1) (n + 1) (gone + r)
+      → o′ ≡ sets o (rowSize current * n) (rowBytes current (rowBy (cellOf current c) (toldOf p))) → r ≡ endings (later p ∷ []) → Ticking c₀ o₀ c′ o′ (k + 1) (n + 1) (gone + r)
   turn-airs d c′ o′ r one ec eo er =
       let row : List ℕ = rowBytes current (rowBy (cellOf current c₀) (toldOf p)) in
       let long : length row ≡ (rowSize current) = length-rowBytes current (rowBy (cellOf current c₀) (toldOf p)) in
-      let e : o′ ≡ sets o ((rowSize current) * n) row = eo ∙ rw same-row in
-      turn 1 r (n + 1) (gone + r) c′ o′ refl refl (omega arith) one ec (ap length e ∙ length-sets o ((rowSize current) * n) row) (rw (told-due p rest d) (omega arith))
-      (rw (told-due p rest d, rows-cons, e) (sym (sets-run row (rowsBytes c₀ (second rest .rows)) o ((rowSize current) * n) ((rowSize current) * (n + 1)) (omega arith))))
+      let e : o′ ≡ sets o (rowSize current * n) row = eo ∙ rw same-row in
+      turn 1 r (n + 1) (gone + r) c′ o′ refl refl (omega arith) one ec (ap length e ∙ length-sets o (rowSize current * n) row) (rw (told-due p rest d) (omega arith))
+      (rw (told-due p rest d, rows-cons, e) (sym (sets-run row (rowsBytes c₀ (second rest .rows)) o (rowSize current * n) (rowSize current * (n + 1)) (omega arith))))
       (endings-cons (later p) (map later rest) ∙ rw er)

@@ -32,12 +32,12 @@ pub record ToAir (c out : List ℕ) (k n : ℕ) : Type 0 where
   pub at : LiveAt c k
   pub due : isDue (placeAt c k) ≡ true
   pub few : n < placesPerCell
-  pub room : (rowSize current) * n + (rowSize current) ≤ length out
+  pub room : rowSize current * n + rowSize current ≤ length out
 
 -- place k was broadcast, row n says so, and r is 1 if that was the last time
 pub record Aired (c out : List ℕ) (k n : ℕ) (c′ out′ : List ℕ) (r : ℕ) : Type 0 where
   pub cell : c′ ≡ withPlace c k (later (placeAt c k))
-  pub row : out′ ≡ sets out ((rowSize current) * n) (rowBytes current (rowBy (cellOf current c) (toldOf (placeAt c k))))
+  pub row : out′ ≡ sets out (rowSize current * n) (rowBytes current (rowBy (cellOf current c) (toldOf (placeAt c k))))
   pub ended : r ≡ endings (later (placeAt c k) ∷ [])
   pub one : r ≤ 1
 

@@ -23,7 +23,7 @@ rowsBytes c told = flatMap (rowBytes current) (map (rowBy (cellOf current c)) to
 pub record Ready (c out : List ℕ) (most : ℕ) : Type 0 where
   pub size : length c ≡ cellSize current
   pub legal : legalCell current c ≡ true
-  pub room : (rowSize current) * most ≤ length out
+  pub room : rowSize current * most ≤ length out
 
 -- the cell has the places that the rule gives, and the rows stand at the start of the room for them
 pub record Stepped (d : Done) (c out c′ out′ : List ℕ) (most n : ℕ) : Type 0 where

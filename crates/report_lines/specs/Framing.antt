@@ -19,7 +19,7 @@ unfoldable pub cellsNamed : List ℕ → ℕ
 cellsNamed l = cond (leb (be (take countSize l)) mostCells) (be (take countSize l)) 0
 
 abbrev pub headsEnd : ℕ → ℕ
-headsEnd n = countSize + (headSize current) * n
+headsEnd n = countSize + headSize current * n
 
 -- ---- a record
 

@@ -32,14 +32,14 @@ pub there-short : (l : List ℕ) → length l < countSize → 0 ≡ cond (headsT
 there-short l h = rw (lt-leb countSize (length l) h)
 
 module _ (l : List ℕ) (n : ℕ) (e : n ≡ cellsNamed l) (long : countSize ≤ length l) where
-  pub there-cut : length l < countSize + (headSize current) * n → 0 ≡ cond (headsThere l) (cellsNamed l) 0
+  pub there-cut : length l < countSize + headSize current * n → 0 ≡ cond (headsThere l) (cellsNamed l) 0
   there-cut h = rw (← e, le-leb countSize (length l) long, lt-leb (headsEnd n) (length l) h) (go (leb 1 n))
     where
       go : (b : Bool) → 0 ≡ cond (b && false) n 0
       go true = refl
       go false = refl
 
-  pub there-all : countSize + (headSize current) * n ≤ length l → n ≡ cond (headsThere l) (cellsNamed l) 0
+  pub there-all : countSize + headSize current * n ≤ length l → n ≡ cond (headsThere l) (cellsNamed l) 0
   there-all h =
       rw (← e, le-leb countSize (length l) long, le-leb (headsEnd n) (length l) h)
       (by-test (leb 1 n) (λ (t : leb 1 n ≡ true). rw t) (λ (t : leb 1 n ≡ false). rw t (omega (arith, leb-false 1 n t))))
@@ -135,7 +135,7 @@ module _ (l : List ℕ) (n : ℕ) (e : n ≡ cond (headsThere l) (cellsNamed l) 
     unfolding opens programIn
     unopened-stepped z never k s = rw (not-there z, ← k) s
 
-    pub opened-stepped : (n ≡ 0 → ⊥) → (size : ℕ) → size ≡ (headSize current) * n → (t' : List ℕ)
+    pub opened-stepped : (n ≡ 0 → ⊥) → (size : ℕ) → size ≡ headSize current * n → (t' : List ℕ)
         → Stepped (opened n (programIn 0 t a) (built (take size (drop countSize l)) (take (tableSize n) t))) t a out at r t' a out'
         → Stepped (opens ended (programIn 0 t a) l) t a out at r t' a out'
     unfolding opens programIn

@@ -59,10 +59,10 @@ module _ (l more : List ℕ) where
       rw (cells-stay (t .counted), le-leb countSize (length (l ++ more)) (omega (arith, t .counted)), le-leb 1 (cellsNamed l) (t .least))
       (le-leb (headsEnd (cellsNamed l)) (length (l ++ more)) (omega (arith, t .within)))
 
-  heads-stay : There → take ((headSize current) * cellsNamed l) (drop countSize (l ++ more)) ≡ take ((headSize current) * cellsNamed l) (drop countSize l)
+  heads-stay : There → take (headSize current * cellsNamed l) (drop countSize (l ++ more)) ≡ take (headSize current * cellsNamed l) (drop countSize l)
   heads-stay t =
       let d : length (drop countSize l) ≡ length l - countSize = length-drop countSize l in
-      rw (drop-append-le countSize l more (t .counted)) (take-append-le ((headSize current) * cellsNamed l) (drop countSize l) more (omega (arith, t .within)))
+      rw (drop-append-le countSize l more (t .counted)) (take-append-le (headSize current * cellsNamed l) (drop countSize l) more (omega (arith, t .within)))
 
   -- ---- a table, or the builder's refusal
 
@@ -84,7 +84,7 @@ module _ (l more : List ℕ) where
   heads-said ended e =
       let t = there e in
       rw (e, there-stays t, cells-stay (t .counted), heads-stay t, take-replicate {A = ℕ} (tableSize n) (tableSize mostCells) 0 (omega (arith, cells-most l)))
-      (opened-said t (built (take ((headSize current) * n) (drop countSize l)) (replicate (tableSize n) 0)))
+      (opened-said t (built (take (headSize current * n) (drop countSize l)) (replicate (tableSize n) 0)))
 
   -- ---- no table
 

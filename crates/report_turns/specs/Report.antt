@@ -40,5 +40,5 @@ report l =
     let n = cellsNamed l in
     cond
     (leb countSize (length l) && (leb 1 n && leb (headsEnd n) (length l)))
-    (openedSaid n (built (take ((headSize current) * n) (drop countSize l)) (replicate (tableSize n) 0)) (drop (headsEnd n) l))
+    (openedSaid n (built (take (headSize current * n) (drop countSize l)) (replicate (tableSize n) 0)) (drop (headsEnd n) l))
     (noText 9)

@@ -66,7 +66,7 @@ opened n p f =
 abbrev pub builtFrom : Program → List ℕ → Filled
 builtFrom p l =
     let n = cellsNamed l in
-    built (take ((headSize current) * n) (drop countSize l)) (take (tableSize n) (p .table))
+    built (take (headSize current * n) (drop countSize l)) (take (tableSize n) (p .table))
 
 unfoldable pub opens : Bool → Program → List ℕ → Step
 opens ended p l =
