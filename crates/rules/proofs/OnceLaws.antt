@@ -8,7 +8,7 @@ use lib.ListN.{getD}
 use Rattle.rules.specs.Refusals.{numberOf, writingNumber, writingLength}
 use Rattle.rules.specs.Applied.{Filled, ReadOutcome, Outcome, filledBy, readBy, outcomeBy}
 use Rattle.rules.specs.declared.Refusal.{Refusal}
-use Rattle.rules.specs.declared.Refusal.the-variants.{TableMark, TableWrong, RecordMark, RecordLength, RecordFields, RecordLimits, CancelsNothing, ShortBuffer, BadHeads, ListDamaged, TooManySegments, NoSuchSegment}
+use Rattle.rules.specs.declared.Refusal.the-variants.{TableMark, TableWrong, RecordMark, RecordLength, RecordFields, RecordLimits, CancelsNothing, ShortBuffer, BadHeads, ListDamaged, TooManySegments, NoSuchSegment, BadEncoding, OtherMessage, UnknownElement, ElementsWrong}
 use Rattle.rules.specs.declared.Writing.{Writing}
 use Rattle.rules.specs.declared.Writing.the-variants.{Written, Unwritten}
 use Rattle.rules.specs.declared.Reading.{Reading}
@@ -18,7 +18,7 @@ use Rattle.rules.proofs.OutcomeLaws.{number-positive}
 -- the refusal with a number; none has 0
 numbered : ℕ → Refusal
 numbered n =
-    getD (TableMark ∷ TableMark ∷ TableWrong ∷ RecordMark ∷ RecordLength ∷ RecordFields ∷ RecordLimits ∷ CancelsNothing ∷ ShortBuffer ∷ BadHeads ∷ ListDamaged ∷ TooManySegments ∷ NoSuchSegment ∷ []) n TableMark
+    getD (TableMark ∷ TableMark ∷ TableWrong ∷ RecordMark ∷ RecordLength ∷ RecordFields ∷ RecordLimits ∷ CancelsNothing ∷ ShortBuffer ∷ BadHeads ∷ ListDamaged ∷ TooManySegments ∷ NoSuchSegment ∷ BadEncoding ∷ OtherMessage ∷ UnknownElement ∷ ElementsWrong ∷ []) n TableMark
 
 numbered-number : (x : Refusal) → numbered (numberOf x) ≡ x
 unfolding numbered
@@ -34,6 +34,10 @@ numbered-number BadHeads = refl
 numbered-number ListDamaged = refl
 numbered-number TooManySegments = refl
 numbered-number NoSuchSegment = refl
+numbered-number BadEncoding = refl
+numbered-number OtherMessage = refl
+numbered-number UnknownElement = refl
+numbered-number ElementsWrong = refl
 
 pub number-injective : (x y : Refusal) → numberOf x ≡ numberOf y → x ≡ y
 number-injective x y e = sym (numbered-number x) ∙ ap numbered e ∙ numbered-number y

@@ -11,7 +11,7 @@ use Rattle.rules.specs.Refusals.{numberOf, recordVerdict, writeVerdict, 
 use Rattle.rules.specs.Applied.{fill, built, conversion, written, noRequest, reading, readOf, outcome, applied}
 use Rattle.rules.specs.declared.Request.{Request}
 use Rattle.rules.specs.declared.Refusal.{Refusal}
-use Rattle.rules.specs.declared.Refusal.the-variants.{TableMark, TableWrong, RecordMark, RecordLength, RecordFields, RecordLimits, CancelsNothing, ShortBuffer, BadHeads, ListDamaged, TooManySegments, NoSuchSegment}
+use Rattle.rules.specs.declared.Refusal.the-variants.{TableMark, TableWrong, RecordMark, RecordLength, RecordFields, RecordLimits, CancelsNothing, ShortBuffer, BadHeads, ListDamaged, TooManySegments, NoSuchSegment, BadEncoding, OtherMessage, UnknownElement, ElementsWrong}
 use Rattle.rules.specs.declared.Verdict.{Verdict}
 use Rattle.rules.specs.declared.Verdict.the-variants.{Accepted, Refused}
 
@@ -28,6 +28,10 @@ number-positive BadHeads = omega arith
 number-positive ListDamaged = omega arith
 number-positive TooManySegments = omega arith
 number-positive NoSuchSegment = omega arith
+number-positive BadEncoding = omega arith
+number-positive OtherMessage = omega arith
+number-positive UnknownElement = omega arith
+number-positive ElementsWrong = omega arith
 
 -- ---- a buffer that is filled
 

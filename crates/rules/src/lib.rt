@@ -76,7 +76,7 @@ impl Request {
     }
 }
 
-// The numbered refusals, in the order of their numbers: document 01's nine, then those of a list of segments (document 02).
+// The numbered refusals, in the order of their numbers: document 01's nine, then document 02's: those of a list of segments, and those of a message on the wire.
 pub enum Refusal {
     TableMark,
     TableWrong,
@@ -90,6 +90,10 @@ pub enum Refusal {
     ListDamaged,
     TooManySegments,
     NoSuchSegment,
+    BadEncoding,
+    OtherMessage,
+    UnknownElement,
+    ElementsWrong,
 }
 
 impl Refusal {
@@ -109,6 +113,10 @@ impl Refusal {
             Refusal::ListDamaged => 10,
             Refusal::TooManySegments => 11,
             Refusal::NoSuchSegment => 12,
+            Refusal::BadEncoding => 13,
+            Refusal::OtherMessage => 14,
+            Refusal::UnknownElement => 15,
+            Refusal::ElementsWrong => 16,
         }
     }
 }

@@ -1,0 +1,5 @@
+pub mod ElementLaws
+pub mod LengthLaws
+pub mod StepLaws
+pub mod WalkLaws
+pub mod GivenLaws
