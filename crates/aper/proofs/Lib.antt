@@ -3,3 +3,4 @@ pub mod LengthLaws
 pub mod StepLaws
 pub mod WalkLaws
 pub mod GivenLaws
+pub mod Once

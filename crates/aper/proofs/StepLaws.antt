@@ -3,10 +3,10 @@ use mathlib.Core.Path.{_≡_, refl, sym, ap, _∙_}
 use mathlib.Core.List.{List}
 use Prim.Native.Nat.{ℕ, _+_, _-_, _/_, _%_, _<_, _≤_}
 use native.Mathlib.Omega.{arith}
-use lib.Dec.{ltb}
+use lib.Dec.{eqb, ltb}
 use lib.ListN.{length, take, drop, length-drop}
 use lib.Seq.{length-take-le}
-use borrow.Author.Tests.{lt-ltb, ltb-true, ltb-false, eq-eqb, ne-eqb}
+use borrow.Author.Tests.{lt-ltb, ltb-true, ltb-false, eq-eqb, ne-eqb, eqb-true, eqb-false}
 use Rattle.octets.specs.Runs.{gets}
 use Rattle.octets.specs.Numbers.{be}
 use Rattle.formats.specs.Format.{nothing, found, number, opaque, pair, behind, only, as-if, inside}
@@ -106,3 +106,27 @@ module _ (l : List ℕ) (at : ℕ) where
 
           pub one-there : ElementAt l at (One id (b / 64) start (start + n))
           one-there = record { says = told ∙ sym this-found; lies = (omega (arith, later), omega (arith, behind-it), omega arith) }
+
+-- ---- where an element is known to be, its length tells where it ends
+
+module _ (l : List ℕ) (at : ℕ) (k : at ≤ length l) (is : ElementAt l at NoElement → ⊥) where
+  pub head-there : at + 3 ≤ length l
+  head-there = by-test (ltb (length l) (at + 3)) (λ t. absurd (is (head-cut l at k (omega (arith, ltb-true (length l) (at + 3) t))))) (λ t. ltb-false (length l) (at + 3) t)
+
+  padding-unset : be (gets l (at + 2) 1) % 64 ≡ 0
+  padding-unset =
+      by-test (eqb (be (gets l (at + 2) 1) % 64) 0)
+      (λ t. eqb-true (be (gets l (at + 2) 1) % 64) 0 t)
+      (λ t. absurd (is (padding-set l at (be (gets l at 2)) (be (gets l (at + 2) 1)) head-there refl refl (eqb-false (be (gets l (at + 2) 1) % 64) 0 t))))
+
+  pub length-there : LengthAt l (at + 3) NoLength → ⊥
+  length-there read = is (length-bad l at (be (gets l at 2)) (be (gets l (at + 2) 1)) head-there refl refl padding-unset read)
+
+  pub by-length : (n start : ℕ) → LengthAt l (at + 3) (Of n start) → ElementAt l at (One (be (gets l at 2)) (be (gets l (at + 2) 1) / 64) start (start + n))
+  by-length n start read =
+      by-test (eqb n 0)
+      (λ t. absurd (is (nothing-inside l at (be (gets l at 2)) (be (gets l (at + 2) 1)) head-there refl refl padding-unset n start read (eqb-true n 0 t))))
+      (λ t.
+      by-test (ltb (length l - start) n)
+      (λ u. absurd (is (contents-cut l at (be (gets l at 2)) (be (gets l (at + 2) 1)) head-there refl refl padding-unset n start read (ltb-true (length l - start) n u))))
+      (λ u. one-there l at (be (gets l at 2)) (be (gets l (at + 2) 1)) head-there refl refl padding-unset n start read (eqb-false n 0 t) (ltb-false (length l - start) n u)))

@@ -1,18 +1,17 @@
 -- The walk over a container of extensions: an element at an index, as a loop sees it; where the walk starts and what its end says.
 use mathlib.Core.Path.{_≡_, refl, sym, ap, _∙_}
-use mathlib.Core.Bool.{Bool, true, false, cond, _||_}
+use mathlib.Core.Bool.{Bool, true, false, _||_}
 use mathlib.Core.List.{List}
 use Prim.Native.Nat.{ℕ, _+_, _-_, _<_, _≤_}
 use native.Mathlib.Omega.{arith}
 use lib.Dec.{ltb}
-use lib.ListN.{length, take, drop, drop-of-length-le}
-use lib.Seq.{drop-cons}
+use lib.ListN.{length, take, drop}
 use borrow.Author.Tests.{lt-ltb, le-ltb}
 use Rattle.octets.specs.Runs.{gets}
 use Rattle.octets.specs.Numbers.{be}
 use Rattle.rules.specs.Lists.{any}
 use Rattle.formats.specs.Summary.{summed, gathered, orMarked}
-use Rattle.formats.specs.Format.{Found, nothing, found, opaque, behind, only, as-if, several, times}
+use Rattle.formats.specs.Format.{Found, nothing, found, opaque, behind, only, as-if, times}
 use Rattle.formats.proofs.ReadLaws.{number-cut, number-found}
 use Rattle.formats.proofs.SummaryLaws.{summed-same, gathered-marks}
 use Rattle.formats.proofs.WalkLaws.{Walking}

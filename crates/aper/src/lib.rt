@@ -45,7 +45,7 @@ fn wide(x: u8) -> usize
 }
 
 // The length at an index: its shortest form only, and no fragmented one.
-fn length_at(s: &[u8], at: usize) -> Length
+pub fn length_at(s: &[u8], at: usize) -> Length
     ensures { λ r. ⌜ LengthAt (now (s .entry)) at r ⌝ }
 {
     if s.len() <= at {

@@ -1,4 +1,6 @@
 pub mod SummaryLaws
+pub mod FoundLaws
+pub mod PairLaws
 pub mod FormatLaws
 pub mod BitsLaws
 pub mod ReadLaws

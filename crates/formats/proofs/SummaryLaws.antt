@@ -1,11 +1,11 @@
--- Summaries: of two values one behind the other, of a value that is all of the bytes, and what gathering marks comes to.
+-- Summaries: of nothing and of a value, of a value that is all of the bytes, and what gathering marks comes to.
 use mathlib.Core.Path.{_≡_, refl, sym, ap, subst, _∙_}
-use mathlib.Core.Bool.{Bool, true, false, _||_}
+use mathlib.Core.Bool.{Bool, _||_}
 use mathlib.Core.List.{List, [], _∷_}
 use Prim.Native.Nat.{ℕ}
-use native.Mathlib.Omega.{arith}
 use Rattle.rules.specs.Lists.{any}
-use Rattle.formats.specs.Format.{Found, nothing, found, after, allOf}
+use Rattle.rules.proofs.TestLaws.{or-assoc, or-false}
+use Rattle.formats.specs.Format.{Found, nothing, found, allOf}
 use Rattle.formats.specs.Summary.{summed, gathered, orMarked}
 
 -- ---- nothing is no value
@@ -48,14 +48,6 @@ module _ {A B : Type 0} where
   summed-all g (found a (b ∷ bs)) r = refl
 
 -- ---- marks
-
-or-assoc : (a b c : Bool) → ((a || b) || c) ≡ (a || (b || c))
-or-assoc true b c = refl
-or-assoc false b c = refl
-
-or-false : (a : Bool) → (a || false) ≡ a
-or-false true = refl
-or-false false = refl
 
 pub gathered-marks : {A : Type 0} (marks : A → Bool) (seen : Bool) (xs : List A) → gathered (orMarked marks) seen xs ≡ (seen || any marks xs)
 unfolding gathered any

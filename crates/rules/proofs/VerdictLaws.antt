@@ -36,12 +36,12 @@ then-assoc : (a b c : Verdict) → (a then b) then c ≡ a then b then c
 then-assoc Accepted b c = refl
 then-assoc (Refused x) b c = refl
 
-then-end : (a : Verdict) → a then Accepted ≡ a
+pub then-end : (a : Verdict) → a then Accepted ≡ a
 then-end Accepted = refl
 then-end (Refused x) = refl
 
 -- tests behind tests
-first-append : (xs ys : List Test) → firstOf (xs ++ ys) ≡ firstOf xs then firstOf ys
+pub first-append : (xs ys : List Test) → firstOf (xs ++ ys) ≡ firstOf xs then firstOf ys
 first-append [] ys = refl
 first-append (t ∷ ts) ys = rw (first-append ts ys) (sym (then-assoc (refuseUnless (t .holds) (t .refusal)) (firstOf ts) (firstOf ys)))
 
