@@ -1,0 +1,7 @@
+pub mod NameLaws
+pub mod TurnLaws
+pub mod ElementsLaws
+pub mod FrameLaws
+pub mod AccountLaws
+pub mod JudgeLaws
+pub mod Once
