@@ -1,4 +1,4 @@
 mod BitsLaws
-mod WriteLaws
+pub mod WriteLaws
 pub mod Trips
 pub mod Once

@@ -113,12 +113,12 @@ fields-size : (q : Request) (n : ℕ) → length (bytesOf recordFields (requestN
 unfolding requestNumbers
 fields-size q n = length-written recordFields (requestNumbers q n) refl ∙ record-size
 
-bytes-size : (q : Request) (items : List ℕ) → length (recordBytes q items) ≡ recordSize + itemSize current * length items
+pub bytes-size : (q : Request) (items : List ℕ) → length (recordBytes q items) ≡ recordSize + itemSize current * length items
 unfolding recordBytes
 bytes-size q items = rw (length-append, fields-size q (length items), length-flatMap (itemSize current) (toBe (itemSize current)) items (length-toBe (itemSize current)))
 
 -- fields and items, one behind the other
-one-store : (q : Request) (items l : List ℕ) → sets (sets l 0 (bytesOf recordFields (requestNumbers q (length items)))) recordSize (flatMap (toBe (itemSize current)) items) ≡ sets l 0 (recordBytes q items)
+pub one-store : (q : Request) (items l : List ℕ) → sets (sets l 0 (bytesOf recordFields (requestNumbers q (length items)))) recordSize (flatMap (toBe (itemSize current)) items) ≡ sets l 0 (recordBytes q items)
 unfolding recordBytes
 one-store q items l =
     sets-run (bytesOf recordFields (requestNumbers q (length items))) (flatMap (toBe (itemSize current)) items) l 0 recordSize (omega (arith, fields-size q (length items)))

@@ -150,7 +150,7 @@ fn put_counts(buffer: &mut [u8], request: Request, n: u16)
 }
 
 // All of them, the mark and the version in front.
-fn put_fields(buffer: &mut [u8], request: Request, n: u16)
+pub fn put_fields(buffer: &mut [u8], request: Request, n: u16)
     requires { ⌜ recordSize ≤ length (now buffer) ⌝ }
     ensures { λ _. ⌜ now (buffer .exit) ≡ sets (now (buffer .entry)) 0 (bytesOf recordFields (requestNumbers request n)) ⌝ }
 {

@@ -1,0 +1,88 @@
+-- The record of what a message says: which list lies in its bytes, which request it makes, and what is written for it, by the two tests.
+use mathlib.Core.Path.{_≡_, refl, _∙_}
+use mathlib.Core.Bool.{Bool, true, false, not, _&&_, _||_}
+use mathlib.Core.List.{List, [], _∷_, flatMap}
+use Prim.Native.Nat.{ℕ, _+_, _-_, _*_, _/_, _%_, _<_, _≤_}
+use native.Mathlib.Omega.{arith}
+use lib.Dec.{eqb}
+use lib.ListN.{length, take, drop, length-drop}
+use lib.Seq.{sets, length-take-le}
+use borrow.Author.Tests.{le-leb, lt-leb, ne-eqb}
+use Rattle.octets.specs.Numbers.{toBe}
+use Rattle.octets.specs.Fields.{bytesOf}
+use Rattle.rules.specs.Layout.{current, recordFields, recordSize, itemSize}
+use Rattle.rules.specs.Record.{cancelOrKill, cancelsNothing, requestNumbers}
+use Rattle.rules.specs.Refusals.{cancelsSome}
+use Rattle.rules.specs.Applied.{fill, filledBy}
+use Rattle.rules.specs.declared.Refusal.the-variants.{CancelsNothing, ShortBuffer}
+use Rattle.rules.specs.declared.Request.{Request}
+use Rattle.rules.specs.declared.Writing.the-variants.{Written, Unwritten}
+use Rattle.record_write.proofs.WriteLaws.{bytes-size, one-store}
+use Rattle.formats.specs.Format.{Found, nothing, found}
+use Rattle.aper.specs.Elements.{Element}
+use Rattle.wire.specs.Cells.{Entry, list}
+use Rattle.wire.specs.CancelRead.{Cancel, flagsOf, areaNamed, cancelRequest, recordRoom, recordOf}
+use Rattle.wire_judge.specs.Account.{listAt, accountBy, WholeList, Lies}
+use Rattle.wire_judge.specs.declared.Seen.{Seen}
+use Rattle.wire_cancel.specs.Taken.{cellsIn, areaBy, requestBy, recorded}
+
+-- ---- what was seen
+
+flags-some : (all noted : Bool) → not (eqb cancelOrKill cancelOrKill && not (eqb (flagsOf all noted / 2 % 2) 1) && not (eqb (flagsOf all noted / 4 % 2) 1)) ≡ (all || noted)
+flags-some true true = refl
+flags-some true false = refl
+flags-some false true = refl
+flags-some false false = refl
+
+area-named : (cells : List ℕ) → areaBy (length cells) ≡ areaNamed cells
+area-named [] = refl
+area-named (x ∷ xs) = rw (ne-eqb (length (x ∷ xs)) 0 (λ e. omega arith))
+
+module _ (l : List ℕ) (s : Seen) where
+  -- where its list lies
+  abbrev pub part : List ℕ
+  part = take (s .end - s .start) (drop (s .start) l)
+
+  abbrev pub Says : Cancel
+  Says = accountBy l s .says
+
+  pub cells-said : cellsIn part ≡ Says .cells
+  unfolding accountBy listAt cellsIn
+  cells-said = refl
+
+  pub some-said : cancelsSome (cancelRequest Says) ≡ (s .all || s .noted)
+  unfolding cancelsNothing cancelRequest accountBy
+  some-said = flags-some (s .all) (s .noted)
+
+  pub request-said : {n : ℕ} → n ≡ length (cellsIn part) → requestBy s n ≡ cancelRequest Says
+  unfolding requestBy cancelRequest accountBy listAt cellsIn
+  request-said e = rw (e, area-named (cellsIn part))
+
+  pub part-whole : Lies l s → s .lacks ≡ false → WholeList (length part) false (list .parse part)
+  part-whole lies own = unfold listAt in of (list .parse part) (lies .list)
+    where
+      of : (x : Found (List (Element Entry))) → WholeList (s .end) (s .lacks) x → WholeList (length part) false x
+      of nothing e =
+          let inside : s .end - s .start ≤ length (drop (s .start) l) = rw length-drop (omega (arith, lies .ends)) in
+          length-take-le (s .end - s .start) (drop (s .start) l) inside ∙ omega arith
+      of (found es []) whole = λ _. whole own
+      of (found es (b ∷ bs)) whole = whole
+
+-- ---- what is written
+
+module _ (c : Cancel) (buffer : List ℕ) where
+  pub none-put : cancelsSome (cancelRequest c) ≡ false → filledBy (Unwritten CancelsNothing) buffer ≡ recorded c buffer
+  unfolding recorded fill
+  none-put t = rw t
+
+  module _ (some : cancelsSome (cancelRequest c) ≡ true) where
+    pub short-put : length buffer < recordRoom c → filledBy (Unwritten ShortBuffer) buffer ≡ recorded c buffer
+    unfolding recorded fill
+    short-put h = rw (some, lt-leb (recordRoom c) (length buffer) h)
+
+    pub record-put : recordRoom c ≤ length buffer → {n : ℕ} {q : Request} {a b : List ℕ} → n ≡ length (c .cells) → q ≡ cancelRequest c
+        → a ≡ sets buffer 0 (bytesOf recordFields (requestNumbers q n)) → b ≡ sets a recordSize (flatMap (toBe (itemSize current)) (c .cells))
+        → filledBy (Written (recordSize + itemSize current * n)) b ≡ recorded c buffer
+    unfolding recorded fill recordOf
+    record-put h e q p₁ p₂ =
+        rw (some, le-leb (recordRoom c) (length buffer) h, p₂, p₁, q, e, one-store (cancelRequest c) (c .cells) buffer, bytes-size (cancelRequest c) (c .cells))
