@@ -7,10 +7,12 @@ use Rattle.rules.specs.Layout.{current}
 use Rattle.rules.specs.Applied.{built, conversion, written, readOf, itemAt, applied}
 use Rattle.rules.specs.declared.Request.{Request}
 use Rattle.segments.specs.Segments.{liesAt, packed}
-use Rattle.pws.specs.Surface.{filled, left, lies, readTo}
+use Rattle.wire.specs.CancelRead.{cancelRead}
+use Rattle.pws.specs.Surface.{filled, left, lies, readTo, taken}
 use Rattle.pws.specs.declared.PwsDone.{PwsDone}
 use Rattle.pws.specs.declared.PwsReading.{PwsReading}
 use Rattle.pws.specs.declared.PwsPart.{PwsPart}
+use Rattle.pws.specs.declared.PwsMessage.{PwsMessage}
 
 abbrev pub BuildPromise : (heads table : List ℕ) → PwsDone → List ℕ → Type 0
 BuildPromise heads table d table′ = filled d table′ ≡ built heads table
@@ -35,3 +37,6 @@ SegmentPromise first more k p = lies p ≡ liesAt first more k
 
 abbrev pub PackPromise : (bytes lengths list : List ℕ) → PwsDone → List ℕ → Type 0
 PackPromise bytes lengths list d list′ = filled d list′ ≡ packed bytes lengths list
+
+abbrev pub ReadCancelPromise : (message buffer : List ℕ) → PwsMessage → List ℕ → Type 0
+ReadCancelPromise message buffer m buffer′ = taken m buffer′ ≡ cancelRead message buffer

@@ -1,14 +1,15 @@
 // The C surface: numbers and byte slices in, numbers out. Each function hands its buffers to the crate that does the work.
 ghost use mathlib.Core.Path.{_≡_};
 ghost use Rattle.rules.specs.Applied.{noRequest};
-ghost use Rattle.pws.specs.Surface.{doneBy};
-ghost use Rattle.pws.specs.Promises.{BuildPromise, ConvertPromise, ApplyPromise, ReadPromise, WritePromise, ItemPromise, SegmentPromise, PackPromise};
+ghost use Rattle.pws.specs.Surface.{doneBy, messageBy};
+ghost use Rattle.pws.specs.Promises.{BuildPromise, ConvertPromise, ApplyPromise, ReadPromise, WritePromise, ItemPromise, SegmentPromise, PackPromise, ReadCancelPromise};
 use rules::Broadcasts;
 use rules::Reading;
 use rules::Request;
 use rules::Seconds;
 use rules::Writing;
 use segments::read::Part;
+use wire_cancel::Taking;
 
 // 0 and the length written, or a refusal's number and 0.
 #[repr(C)]
@@ -32,6 +33,14 @@ pub struct PwsPart {
     pub number: u32,
     pub buffer: u32,
     pub start: usize,
+    pub length: usize,
+}
+
+// 0, the transaction identifier of a message and the length of the record written; or a refusal's number, and everything else 0.
+#[repr(C)]
+pub struct PwsMessage {
+    pub number: u32,
+    pub transaction: u32,
     pub length: usize,
 }
 
@@ -128,6 +137,30 @@ pub extern "C" fn pws_pack(bytes: &[u8], lengths: &[u64], list: &mut [u8]) -> Pw
     ensures { λ r. ⌜ PackPromise (now (bytes .entry)) (now (lengths .entry)) (now (list .entry)) r (now (list .exit)) ⌝ }
 {
     done(segments::pack::pack(bytes, lengths, list))
+}
+
+fn message(taking: Taking) -> PwsMessage
+    ensures { λ r. ⌜ r ≡ messageBy taking ⌝ }
+{
+    match taking {
+        Taking::Taken(transaction, length) => PwsMessage {
+            number: 0,
+            transaction: transaction as u32,
+            length,
+        },
+        Taking::Untaken(cause) => PwsMessage {
+            number: cause.number(),
+            transaction: 0,
+            length: 0,
+        },
+    }
+}
+
+#[no_mangle]
+pub extern "C" fn pws_read_cancel(bytes: &[u8], buffer: &mut [u8]) -> PwsMessage
+    ensures { λ r. ⌜ ReadCancelPromise (now (bytes .entry)) (now (buffer .entry)) r (now (buffer .exit)) ⌝ }
+{
+    message(wire_cancel::read_cancel(bytes, buffer))
 }
 
 // No request: what the reader returns with a refusal.
