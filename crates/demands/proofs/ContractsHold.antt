@@ -5,8 +5,9 @@ use mathlib.Core.List.{List}
 use Prim.Native.Nat.{ℕ}
 use denote.Ref.{now}
 use Rattle.octets.proofs.Once.{one-outcome}
-use Rattle.pws.specs.Surface.{filled, left}
+use Rattle.pws.specs.Surface.{filled, left, taken}
 use Rattle.pws.specs.declared.PwsDone.{PwsDone}
+use Rattle.pws.specs.declared.PwsMessage.{PwsMessage}
 use Rattle.demands.specs.Contracts.{AsksNothing, CodeMeets, LearnsPromises, Contracts, OneOutcome}
 use Rattle.pws.proofs.pws_build.Met as build
 use Rattle.pws.proofs.pws_convert.Met as convert
@@ -16,6 +17,7 @@ use Rattle.pws.proofs.pws_write.Met as write
 use Rattle.pws.proofs.pws_item.Met as item
 use Rattle.pws.proofs.pws_segment.Met as segment
 use Rattle.pws.proofs.pws_pack.Met as pack
+use Rattle.pws.proofs.pws_read_cancel.Met as cancel
 
 asks-nothing : AsksNothing
 asks-nothing =
@@ -28,6 +30,7 @@ asks-nothing =
       item-asks = λ κs args. tt;
       segment-asks = λ κs args. tt;
       pack-asks = λ κs args. tt;
+      cancel-asks = λ κs args. tt;
     }
 
 code-meets : CodeMeets
@@ -41,6 +44,7 @@ code-meets =
       item-meets = item.met;
       segment-meets = segment.met;
       pack-meets = pack.met;
+      cancel-meets = cancel.met;
     }
 
 learns-promises : LearnsPromises
@@ -54,6 +58,7 @@ learns-promises =
       item-says = λ κs req k n p. p;
       segment-says = λ κs first more k d p. p;
       pack-says = λ κs bytes lengths list list′ d p. p;
+      cancel-says = λ κs message buffer buffer′ m p. p;
     }
 
 pub contracts-hold : Contracts
@@ -68,6 +73,9 @@ filled-once d e a b p i = (record { number = p i .number; length = p i .length }
 left-once : (d e : PwsDone) (a x b y : List ℕ) → left d a x ≡ left e b y → _≡_ {A = PwsDone × List ℕ × List ℕ} (d, a, x) (e, b, y)
 left-once d e a x b y p i = (record { number = p i .number; length = p i .length }, p i .table, p i .answer)
 
+taken-once : (m n : PwsMessage) (a b : List ℕ) → taken m a ≡ taken n b → _≡_ {A = PwsMessage × List ℕ} (m, a) (n, b)
+taken-once m n a b p i = (record { number = p i .number; transaction = p i .transaction; length = p i .length }, p i .buffer)
+
 pub one-outcome-only : OneOutcome
 one-outcome-only =
     record {
@@ -79,4 +87,5 @@ one-outcome-only =
       item-once = λ κs args m n x y. one-outcome;
       segment-once = λ κs args d e x y p q i. let o = one-outcome p q i in record { number = o .number; buffer = o .buffer; start = o .start; length = o .length };
       pack-once = λ κs args d e x y p q. filled-once d e (now (x .1 .1 .0)) (now (y .1 .1 .0)) (one-outcome p q);
+      cancel-once = λ κs args m n x y p q. taken-once m n (now (x .1 .0)) (now (y .1 .0)) (one-outcome p q);
     }

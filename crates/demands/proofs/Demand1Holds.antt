@@ -18,7 +18,8 @@ use Rattle.pws.specs.declared.PwsDone.{PwsDone}
 use Rattle.demands.specs.Demand1.{Stage, Filling, Demand1}
 use Rattle.demands.proofs.ContractsHold.{contracts-hold}
 use Rattle.demands.proofs.NumberLaws.{fill-number, reading-number, outcome-number, lying-number}
-use Rattle.demands.proofs.StageLaws.{within-table, within-older, within-record, within-items, within-asked, within-room, within-heads, within-segment, within-lengths, within-count, chain, EachWithin, numbered}
+use Rattle.demands.proofs.MessageLaws.{number-taken, transaction-taken, length-taken, buffer-taken, cancel-chain, message-number, message-refused}
+use Rattle.demands.proofs.StageLaws.{within-table, within-older, within-record, within-items, within-asked, within-room, within-heads, within-segment, within-lengths, within-count, within-message, within-cancels, chain, EachWithin, numbered}
 
 -- ---- field by field
 
@@ -97,6 +98,12 @@ demand-1 =
       of-pack = λ bytes lengths list.
           filling _ (within-lengths lengths (length bytes), (within-count lengths, (within-room _ (length list), tt))) _ refl _ list
           (fill-number _ _ list) (packed-refused bytes lengths list);
+      cancel-numbered = λ message buffer m buffer′ p.
+          numbered _ (within-message message, (within-cancels _, (within-room _ (length buffer), tt))) _ (cancel-chain message (length buffer)) (m .number)
+          (number-taken p ∙ message-number message buffer);
+      cancel-refused = λ message buffer m buffer′ p h.
+          let x = message-refused message buffer (λ z. h (number-taken p ∙ z)) in
+          (transaction-taken p ∙ x .0, length-taken p ∙ x .1, buffer-taken p ∙ x .2);
       read-numbered = λ req d p. numbered _ (within-record req, tt) _ refl (d .number) (number-read p ∙ reading-number _ req);
       read-refused = λ req d p h.
           let x = read-refused req (λ z. h (number-read p ∙ z)) in

@@ -1,6 +1,7 @@
 pub mod ContractsHold
 pub mod NumberLaws
 pub mod StageLaws
+pub mod MessageLaws
 pub mod Demand1Holds
 pub mod Demand2Once
 pub mod Demand2Cells
@@ -25,3 +26,4 @@ pub mod ToldAlike
 pub mod SecondsAlike
 pub mod AnswerStaysHolds
 pub mod ConversionHolds
+pub mod WireCancelHolds

@@ -10,15 +10,16 @@ use lib.ListN.{length}
 use borrow.Author.Tests.{leb-true}
 use Rattle.rules.specs.Lists.{every}
 use Rattle.rules.specs.Layout.{current, longestPeriod}
-use Rattle.rules.specs.Refusals.{numberOf, verdictNumber, refuseUnless, _then_, Test, firstOf, fewItems, fitsIn, legalHeads, tableTests, olderTests, requestTests, recordTests, tableVerdict, olderVerdict, requestVerdict, recordVerdict}
+use Rattle.rules.specs.Refusals.{numberOf, verdictNumber, refuseUnless, _then_, Test, firstOf, fewItems, cancelsSome, fitsIn, legalHeads, tableTests, olderTests, requestTests, recordTests, tableVerdict, olderVerdict, requestVerdict, recordVerdict}
 use Rattle.rules.specs.declared.Request.{Request}
 use Rattle.rules.specs.declared.Refusal.{Refusal}
-use Rattle.rules.specs.declared.Refusal.the-variants.{RecordLength, ShortBuffer, BadHeads, ListDamaged, TooManySegments, NoSuchSegment}
+use Rattle.rules.specs.declared.Refusal.the-variants.{RecordLength, CancelsNothing, ShortBuffer, BadHeads, ListDamaged, TooManySegments, NoSuchSegment}
 use Rattle.rules.specs.declared.Verdict.{Verdict}
 use Rattle.rules.specs.declared.Verdict.the-variants.{Accepted, Refused}
 use Rattle.rules.proofs.TestLaws.{both}
 use Rattle.rules.proofs.OutcomeLaws.{number-positive}
 use Rattle.segments.specs.Segments.{mostSegments, lengthsFit, segmentsOf, wholeList, segmentVerdict}
+use Rattle.wire.specs.CancelRefusals.{messageTests, messageVerdict}
 use Rattle.demands.specs.Demand1.{Stage, Given, Numbered}
 
 -- ---- the numbers of a verdict
@@ -86,6 +87,13 @@ within-segment more k =
     within-next (wholeList more) ListDamaged _ (omega arith, omega arith)
     (within-next (leb (length (segmentsOf more)) mostSegments) TooManySegments _ (omega arith, omega arith)
     (within-last (leb k (length (segmentsOf more))) NoSuchSegment (omega arith, omega arith)))
+
+pub within-message : (message : List ℕ) → Within 13 16 (messageVerdict message)
+unfolding messageVerdict every
+within-message message = within-first 13 16 (messageTests message) refl
+
+pub within-cancels : (request : Request) → Within 7 7 (refuseUnless (cancelsSome request) CancelsNothing)
+within-cancels request = within-last (cancelsSome request) CancelsNothing (omega arith, omega arith)
 
 -- ---- stages, one behind the other
 

@@ -6,10 +6,11 @@ use contract.Lifetimes.{Lfts}
 use denote.Ref.{RefT, now}
 use Rattle.octets.specs.Settled.{Settles, SettlesResult}
 use Rattle.rules.specs.declared.Request.{Request}
-use Rattle.pws.specs.Promises.{BuildPromise, ConvertPromise, ApplyPromise, ReadPromise, WritePromise, ItemPromise, SegmentPromise, PackPromise}
+use Rattle.pws.specs.Promises.{BuildPromise, ConvertPromise, ApplyPromise, ReadPromise, WritePromise, ItemPromise, SegmentPromise, PackPromise, ReadCancelPromise}
 use Rattle.pws.specs.declared.PwsDone.{PwsDone}
 use Rattle.pws.specs.declared.PwsReading.{PwsReading}
 use Rattle.pws.specs.declared.PwsPart.{PwsPart}
+use Rattle.pws.specs.declared.PwsMessage.{PwsMessage}
 use Rattle.pws.proofs.pws_build.Reads as build
 use Rattle.pws.proofs.pws_build.Statement as build-code
 use Rattle.pws.proofs.pws_convert.Reads as convert
@@ -26,6 +27,8 @@ use Rattle.pws.proofs.pws_segment.Reads as segment
 use Rattle.pws.proofs.pws_segment.Statement as segment-code
 use Rattle.pws.proofs.pws_pack.Reads as pack
 use Rattle.pws.proofs.pws_pack.Statement as pack-code
+use Rattle.pws.proofs.pws_read_cancel.Reads as cancel
+use Rattle.pws.proofs.pws_read_cancel.Statement as cancel-code
 
 -- a lent buffer, at any place in memory
 abbrev Lent : Type 0
@@ -41,6 +44,7 @@ pub record AsksNothing : Type 0 where
   pub item-asks : (κs : Lfts 1) (args : _) → item.Asked κs args
   pub segment-asks : (κs : Lfts 2) (args : _) → segment.Asked κs args
   pub pack-asks : (κs : Lfts 3) (args : _) → pack.Asked κs args
+  pub cancel-asks : (κs : Lfts 2) (args : _) → cancel.Asked κs args
 
 -- the code comes back with what its contract says, at every model of the machine
 pub record CodeMeets : Type 2 where
@@ -52,6 +56,7 @@ pub record CodeMeets : Type 2 where
   pub item-meets : {M : Type 1} → item-code.statement M
   pub segment-meets : {M : Type 1} → segment-code.statement M
   pub pack-meets : {M : Type 1} → pack-code.statement M
+  pub cancel-meets : {M : Type 1} → cancel-code.statement M
 
 -- what a caller learns is the promise
 pub record LearnsPromises : Type 0 where
@@ -79,6 +84,9 @@ pub record LearnsPromises : Type 0 where
   pub pack-says : (κs : Lfts 3) (bytes lengths list list′ : Lent) (d : PwsDone)
       → pack.Learnt κs (bytes, (lengths, (list, tt))) d (bytes, (lengths, (list′, tt)))
       → PackPromise (now bytes) (now lengths) (now list) d (now list′)
+  pub cancel-says : (κs : Lfts 2) (message buffer buffer′ : Lent) (m : PwsMessage)
+      → cancel.Learnt κs (message, (buffer, tt)) m (message, (buffer′, tt))
+      → ReadCancelPromise (now message) (now buffer) m (now buffer′)
 
 -- ---- THE CLAIM
 
@@ -99,3 +107,4 @@ pub record OneOutcome : Type 0 where
   pub item-once : SettlesResult item.Learnt
   pub segment-once : SettlesResult segment.Learnt
   pub pack-once : Settles {X = PwsDone × List ℕ} pack.Learnt (λ κs d exit. (d, now (exit .1 .1 .0)))
+  pub cancel-once : Settles {X = PwsMessage × List ℕ} cancel.Learnt (λ κs m exit. (m, now (exit .1 .0)))

@@ -9,18 +9,21 @@ use Rattle.rules.specs.Layout.{current, longestPeriod, headerSize, cellSize, re
 use Rattle.rules.specs.Table.{cellCount}
 use Rattle.rules.specs.Record.{requestOf}
 use Rattle.rules.specs.Answer.{roomFor}
-use Rattle.rules.specs.Refusals.{numberOf, verdictNumber, refuseUnless, fewItems, fitsIn, headCount, legalHeads, tableVerdict, olderVerdict, recordVerdict, requestVerdict, buildVerdict, convertVerdict, applyVerdict, writeVerdict}
+use Rattle.rules.specs.Refusals.{numberOf, verdictNumber, refuseUnless, fewItems, cancelsSome, fitsIn, headCount, legalHeads, tableVerdict, olderVerdict, recordVerdict, requestVerdict, buildVerdict, convertVerdict, applyVerdict, writeVerdict}
 use Rattle.rules.specs.Applied.{noRequest}
 use Rattle.rules.specs.declared.Request.{Request}
 use Rattle.rules.specs.declared.Refusal.{Refusal}
-use Rattle.rules.specs.declared.Refusal.the-variants.{RecordLength, ShortBuffer, BadHeads, ListDamaged, TooManySegments}
+use Rattle.rules.specs.declared.Refusal.the-variants.{RecordLength, CancelsNothing, ShortBuffer, BadHeads, ListDamaged, TooManySegments}
 use Rattle.rules.specs.declared.Verdict.{Verdict}
 use Rattle.rules.specs.declared.Verdict.the-variants.{Accepted, Refused}
 use Rattle.segments.specs.Segments.{mostSegments, listBytes, cutAt, lengthsFit, segmentVerdict, packVerdict}
-use Rattle.pws.specs.Promises.{BuildPromise, ConvertPromise, ApplyPromise, ReadPromise, WritePromise, ItemPromise, SegmentPromise, PackPromise}
+use Rattle.wire.specs.CancelRefusals.{messageVerdict}
+use Rattle.wire.specs.CancelRead.{cancelRequest, saidIn, recordRoom, cancelVerdict}
+use Rattle.pws.specs.Promises.{BuildPromise, ConvertPromise, ApplyPromise, ReadPromise, WritePromise, ItemPromise, SegmentPromise, PackPromise, ReadCancelPromise}
 use Rattle.pws.specs.declared.PwsDone.{PwsDone}
 use Rattle.pws.specs.declared.PwsReading.{PwsReading}
 use Rattle.pws.specs.declared.PwsPart.{PwsPart}
+use Rattle.pws.specs.declared.PwsMessage.{PwsMessage}
 use Rattle.demands.specs.Contracts.{Contracts}
 
 -- ---- what is judged, and the numbers that it can be refused with
@@ -65,6 +68,13 @@ abbrev pub countStage : List ℕ → Stage
 countStage lengths =
     record { lowest = 11; highest = 11; verdict = refuseUnless (leb (length lengths) mostSegments) TooManySegments }
 
+-- a message from the wire, then whether what it asks for cancels anything
+abbrev pub messageStage : List ℕ → Stage
+messageStage message = record { lowest = 13; highest = 16; verdict = messageVerdict message }
+
+abbrev pub cancelsStage : Request → Stage
+cancelsStage request = record { lowest = 7; highest = 7; verdict = refuseUnless (cancelsSome request) CancelsNothing }
+
 -- ---- a call's number
 
 -- where a stage refuses, n is the number of that refusal, and one of the stage's; where none does, n is 0
@@ -105,6 +115,12 @@ pub record Demand1 : Type 2 where
   pub of-pack : (bytes lengths list : List ℕ) (d : PwsDone) (list′ : List ℕ) → PackPromise bytes lengths list d list′
       → let room = length list in
       Filling d list list′ (packVerdict bytes lengths room) (lengthsStage lengths (length bytes) ∷ countStage lengths ∷ roomStage (length (listBytes (cutAt lengths bytes))) room ∷ [])
+  -- a message from the wire: 13 to 16, "then 7 and 8 of document 01"; a refusal comes with transaction identifier 0 too
+  pub cancel-numbered : (message buffer : List ℕ) (m : PwsMessage) (buffer′ : List ℕ) → ReadCancelPromise message buffer m buffer′
+      → let room = length buffer in
+      Numbered (m .number) (cancelVerdict message room) (messageStage message ∷ cancelsStage (cancelRequest (saidIn message)) ∷ roomStage (recordRoom (saidIn message)) room ∷ [])
+  pub cancel-refused : (message buffer : List ℕ) (m : PwsMessage) (buffer′ : List ℕ) → ReadCancelPromise message buffer m buffer′
+      → (m .number ≡ 0 → ⊥) → (m .transaction ≡ 0) × (m .length ≡ 0) × (buffer′ ≡ buffer)
   -- reading writes nothing; a refusal comes with no request and no items
   pub read-numbered : (req : List ℕ) (d : PwsReading) → ReadPromise req d → Numbered (d .number) (recordVerdict current req) (recordStage req ∷ [])
   pub read-refused : (req : List ℕ) (d : PwsReading) → ReadPromise req d

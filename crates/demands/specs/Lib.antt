@@ -8,3 +8,4 @@ pub mod PrimaryRuns
 pub mod Demand3
 pub mod Demand3Samples
 pub mod Conversion
+pub mod WireCancel
