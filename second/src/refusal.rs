@@ -16,6 +16,10 @@ pub enum Refusal {
     ListDamaged = 10,
     TooManySegments = 11,
     NoSuchSegment = 12,
+    BadlyEncoded = 13,
+    OtherMessage = 14,
+    UnknownElement = 15,
+    ElementOrder = 16,
 }
 
 impl Refusal {

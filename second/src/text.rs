@@ -5,6 +5,7 @@
 //! ```
 
 mod grammar;
+mod messages;
 mod requests;
 mod words;
 

@@ -19,6 +19,7 @@ use comparison::cases::{Cases, Compared};
 use comparison::compare::{Compare, Difference};
 use comparison::reorder::{reorder, Reordered};
 use comparison::unit::{Functions, Unit, SOUND};
+use comparison::wire::broken::{broken_in_cancels, FAULTLESS};
 use given::random::{say, seed, Random};
 
 /// A single fault must show within so many calls.
@@ -43,6 +44,11 @@ const SEGMENTS: Run =
     Run { of: ", segments", calls: 60_000, make: |cases, calls| cases.run_segments(calls) };
 const CONVERSIONS: Run =
     Run { of: ", conversions", calls: 60_000, make: |cases, calls| cases.run_conversions(calls) };
+const CANCELS: Run = Run {
+    of: ", cancels from the wire",
+    calls: 250_000,
+    make: |cases, calls| cases.run_cancels(calls),
+};
 /// As many calls as that takes.
 const LARGEST_PERIOD: Run =
     Run { of: ", the largest period", calls: 0, make: |cases, _| cases.run_largest_period() };
@@ -97,6 +103,11 @@ fn conversions_of_second_agree_with_itself() {
 }
 
 #[test]
+fn cancels_from_the_wire_of_second_agree_with_itself() {
+    assert_agrees("second", CANCELS, &SOUND);
+}
+
+#[test]
 fn the_largest_period_is_the_same_in_second() {
     assert_agrees("second", LARGEST_PERIOD, &SOUND);
 }
@@ -122,6 +133,12 @@ fn segments_of_the_c_library_agree_with_second() {
 #[test]
 fn conversions_of_the_c_library_agree_with_second() {
     assert_agrees("libpws.a", CONVERSIONS, &pws::library());
+}
+
+#[cfg(pws)]
+#[test]
+fn cancels_from_the_wire_of_the_c_library_agree_with_second() {
+    assert_agrees("libpws.a", CANCELS, &pws::library());
 }
 
 #[cfg(pws)]
@@ -167,10 +184,22 @@ fn each_single_fault_in_conversions_is_found() {
     assert_each_is_found(CONVERSIONS, broken_in_conversions());
 }
 
+/// So that what is found of the reader with faults is its fault.
+#[test]
+fn without_a_fault_the_reader_of_cancels_agrees() {
+    assert_agrees("the reader without a fault", CANCELS, &FAULTLESS);
+}
+
+#[test]
+fn each_single_fault_in_cancels_from_the_wire_is_found() {
+    assert_each_is_found(CANCELS, broken_in_cancels());
+}
+
 fn broken_unit(fault: &str) -> Functions {
     let mut units = broken_units();
     units.extend(broken_in_segments());
     units.extend(broken_in_conversions());
+    units.extend(broken_in_cancels());
     let mut units = units.into_iter();
     units.find(|(name, _)| *name == fault).expect("the fault is listed").1
 }
@@ -181,9 +210,9 @@ fn is_found_in_both(run: Run, fault: &str, seed: u64) -> bool {
     compared(run, [(fault, &unit), (fault, &unit)], seed, CALLS_TO_FIND_A_FAULT).1.is_err()
 }
 
-/// Faults that a run finds though both units have them: they break a promise of every call, or what
-/// is converted does not run as what it was.
-const FOUND_IN_BOTH: [(Run, &[&str]); 3] = [
+/// Faults that a run finds though both units have them: they break a promise of every call, what is
+/// converted does not run as what it was, or what is read from the wire is not what was meant.
+const FOUND_IN_BOTH: [(Run, &[&str]); 4] = [
     (
         DOCUMENT_01,
         &[
@@ -220,6 +249,21 @@ const FOUND_IN_BOTH: [(Run, &[&str]); 3] = [
             "a refusal clears the table",
             "a broadcast waits a second too few",
             "places close up in the wrong order",
+        ],
+    ),
+    (
+        CANCELS,
+        &[
+            "the padding of the choice is not judged",
+            "a short length in two bytes is read",
+            "the first problem is given",
+            "an unknown element ends the elements",
+            "an item of another kind is skipped",
+            "a known element must be marked reject",
+            "the record has version 1",
+            "the byte behind the cancel is zeroed",
+            "a refused message clears the record",
+            "a refused message has its transaction",
         ],
     ),
 ];

@@ -54,6 +54,7 @@ fn each_example_is_reported_as_kept() {
         "cancel-first",
         "earthquake",
         "example",
+        "from-the-wire",
         "merged-queues",
         "one-yard",
         "quarry",

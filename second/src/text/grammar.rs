@@ -23,8 +23,8 @@ mod tests {
     fn its_examples_are_a_script() {
         let mut input = Vec::new();
         script(examples().as_bytes(), &mut input).unwrap();
-        let records = 2 + 3 + 2 + 1 + 3;
-        let items = 1 + 1 + 2 + 2;
+        let records = 2 + 3 + 1 + 2 + 1 + 3;
+        let items = 1 + 1 + 2 + 1 + 2;
         let cells = 2 + 2 * Head::LENGTH;
         assert_eq!(input.len(), cells + records * Record::HEADER + items * Record::ITEM);
     }
@@ -32,7 +32,7 @@ mod tests {
     #[test]
     fn its_examples_have_every_word() {
         let examples = examples();
-        let kinds = ["cell", "start", "cancel", "restart", "failure", "second", "seconds"];
+        let kinds = ["cell", "start", "cancel", "wire", "restart", "failure", "second", "seconds"];
         let others = ["concurrent", "all", "in", "cells", "tracking", "areas"];
         for word in kinds.into_iter().chain(others) {
             assert!(examples.split_whitespace().any(|next| next == word), "{word}");

@@ -1,5 +1,6 @@
 //! A line's request.
 
+use super::messages::from_wire;
 use super::words::Words;
 use crate::fault::quoted;
 use crate::layout::Layout;
@@ -14,6 +15,7 @@ pub(super) const MOST_SECONDS: usize = 65_535;
 pub(super) fn request(first: &str, words: &mut Words) -> Result<(Record, usize), String> {
     let bare = |kind| Request { kind, ..Request::default() };
     let (request, times) = match first {
+        "wire" => return Ok((from_wire(words)?, 1)),
         "start" => (start(words)?, 1),
         "cancel" => (cancel(words)?, 1),
         "restart" => (bare(RESTART), 1),
@@ -21,7 +23,7 @@ pub(super) fn request(first: &str, words: &mut Words) -> Result<(Record, usize),
         "second" => (bare(SECOND), 1),
         "seconds" => (bare(SECOND), words.number("number of seconds", 1..=MOST_SECONDS)?),
         _ => {
-            let known = "cell, start, cancel, restart, failure, second or seconds";
+            let known = "cell, start, cancel, wire, restart, failure, second or seconds";
             return Err(format!("A line begins with {known}, not with {}.", quoted(first)));
         }
     };

@@ -1,4 +1,5 @@
 use super::*;
+use crate::fault::quoted;
 use crate::place::{Broadcasts, Seconds};
 use crate::record::{item, read};
 use crate::request::*;
@@ -74,6 +75,17 @@ fn a_cancel_has_one_flag_or_both() {
 }
 
 #[test]
+fn a_message_from_the_wire_is_the_cancel_that_it_asks_for() {
+    let begin = "wire 00150014 000003 004e00020007 008e00020000";
+    assert_eq!(records(&format!("{begin} 009d000100")), records("cancel all"));
+    let both = "wire 00150030000005 004E0002 0007 008e0002 0102 0094000f0000 00950009 00 00F110 \
+                0000000100 009d000100 00dc0005 0444800400 # as it came";
+    assert_eq!(item(&records(both), 0), 0x00f110000000010);
+    let cancel = request("cancel 4370/16 all in cells 00f110000000010");
+    assert_eq!(request(both), Request { requested: Broadcasts(0x0102), ..cancel });
+}
+
+#[test]
 fn the_other_kinds_have_no_fields() {
     let bare = |kind| Request { kind, ..Request::default() };
     assert_eq!(request("restart"), bare(RESTART));
@@ -101,7 +113,7 @@ fn sentence(line: &str) -> String {
 
 #[test]
 fn a_line_begins_with_a_known_word() {
-    let known = "cell, start, cancel, restart, failure, second or seconds";
+    let known = "cell, start, cancel, wire, restart, failure, second or seconds";
     assert_eq!(sentence("stop"), format!("A line begins with {known}, not with `stop`."));
     assert_eq!(fault(b"\xff"), (1, "This is not UTF-8 text.".into()));
 }
@@ -150,6 +162,30 @@ fn a_pair_or_hex_digits_not_as_they_should_be_are_told() {
     assert_eq!(sentence("cancel all in tracking 00f110/16777216"), code);
     let area = "The emergency area must be 0 to 16777215, unlike `north`.";
     assert_eq!(sentence("cancel all in areas north"), area);
+}
+
+#[test]
+fn a_message_that_is_refused_is_told() {
+    assert_eq!(sentence("wire"), "The line ends where a message in hex digits is expected.");
+    for word in ["0", "001", "0g", "+1", "\u{e9}"] {
+        let told = format!("Bytes have two hex digits each, unlike {}.", quoted(word));
+        assert_eq!(sentence(&format!("wire 0015 {word}")), told);
+    }
+    let message = |frame: &str, behind: &str| {
+        sentence(&format!("wire {frame} 004e00020007 008e00020000 {behind}"))
+    };
+    let refused = |number, why| format!("The message is refused with {number}: {why}.");
+    let encoded = "it is cut short or badly encoded";
+    assert_eq!(message("00150014 000003", "009d000101"), refused(13, encoded));
+    assert_eq!(message("00150014 000003", ""), refused(13, encoded));
+    let other = "it is another message than a PWS CANCEL REQUEST";
+    assert_eq!(message("40150014 000003", "009d000100"), refused(14, other));
+    let unknown = "an element that is unknown is marked reject";
+    assert_eq!(message("00150014 000003", "03e7000100"), refused(15, unknown));
+    let order = "an element is missing, repeated or out of order";
+    assert_eq!(message("0015001a 000004", "008e00020000 009d000100"), refused(16, order));
+    let nothing = "it has neither cancel-all nor a notification";
+    assert_eq!(message("0015000f 000002", ""), refused(7, nothing));
 }
 
 #[test]

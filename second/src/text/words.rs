@@ -67,6 +67,17 @@ impl<'a> Words<'a> {
             .ok_or_else(|| format!("An NR CGI has 15 hex digits, unlike {}.", quoted(word)))
     }
 
+    /// Bytes of two hex digits each, in one word.
+    pub fn octets(&mut self) -> Result<Vec<u8>, String> {
+        let word = self.word("a message in hex digits")?;
+        let octet = |pair| Some(hexadecimal(std::str::from_utf8(pair).ok()?, 2)? as u8);
+        word.as_bytes()
+            .chunks(2)
+            .map(octet)
+            .collect::<Option<Vec<u8>>>()
+            .ok_or_else(|| format!("Bytes have two hex digits each, unlike {}.", quoted(word)))
+    }
+
     /// PLMN and code.
     pub fn tracking_area(&mut self) -> Result<u64, String> {
         let word = self.word("a tracking area as PLMN/CODE")?;

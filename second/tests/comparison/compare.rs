@@ -5,7 +5,7 @@ use std::ffi::OsString;
 use std::fs;
 use std::panic::{catch_unwind, AssertUnwindSafe};
 
-use second::Done;
+use second::{Done, Message};
 
 use super::call::{Call, Outcome};
 use super::part::Part;
@@ -96,6 +96,18 @@ impl<'a> Compare<'a> {
         match self.call(Call::Pack { bytes: bytes.to_vec(), lengths: lengths.to_vec(), list })? {
             Outcome::Pack { returned, list } => Ok((returned, list)),
             other => Err(format!("packing had the outcome {other}")),
+        }
+    }
+
+    /// What reading a message returns, and the buffer as the call leaves it.
+    pub fn read_cancel(
+        &mut self,
+        message: &[u8],
+        record: Vec<u8>,
+    ) -> Result<(Message, Vec<u8>), Difference> {
+        match self.call(Call::ReadCancel { message: message.to_vec(), record })? {
+            Outcome::ReadCancel { returned, record } => Ok((returned, record)),
+            other => Err(format!("reading a message had the outcome {other}")),
         }
     }
 

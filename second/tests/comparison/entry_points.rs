@@ -16,6 +16,7 @@ macro_rules! entry_points {
             Item = item(record: *const u8, record_length: usize, k: usize) -> u64;
             Segment = segment(first: *const u8, first_length: usize, more: *const u8, more_length: usize, k: usize) -> Part;
             Pack = pack(bytes: *const u8, bytes_length: usize, lengths: *const u64, count: usize, list: *mut u8, list_length: usize) -> Done;
+            ReadCancel = read_cancel(message: *const u8, message_length: usize, record: *mut u8, record_length: usize) -> Message;
         }
     };
 }

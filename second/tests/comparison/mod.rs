@@ -24,5 +24,6 @@ pub mod tables;
 mod tests;
 mod texts;
 pub mod unit;
+pub mod wire;
 mod wrong_places;
 pub mod wrong_tables;

@@ -1,7 +1,8 @@
 //! What the documents promise of the bytes of every call, whatever happens in a cell: a look of its
 //! own at outcomes on which two units agree.
 
-use second::{Area, Cell, Done, Head, Layout, Reading, Record, Table};
+use second::request::CANCEL;
+use second::{Area, Cell, Done, Head, Layout, Message, Reading, Record, Table};
 
 use super::call::{Call, Outcome};
 use super::part::Part;
@@ -25,6 +26,7 @@ pub fn are_kept(call: &Call, outcome: &Outcome) -> bool {
         (Call::Segment { first, more, k }, Outcome::Segment { returned }) => {
             lies_where_told(first, more, *k, returned)
         }
+        (_, Outcome::ReadCancel { returned, record }) => is_a_cancel(returned, record),
         _ => true,
     };
     rest_stays(call, outcome) && own_are_kept()
@@ -65,6 +67,20 @@ fn unreached_stays(done: &Done, before: &[u8], record: &[u8], after: &[u8]) -> b
 fn all_is_carried(done: &Done, old: &[u8], table: &[u8]) -> bool {
     let old = Table::parse_in(&Layout::VERSION_1, old);
     done.number != 0 || old.is_ok() && old == Table::parse(&table[..done.length])
+}
+
+/// "The result is a Cancel record plus the transaction identifier", which is a byte on the wire; a
+/// refusal has neither.
+fn is_a_cancel(message: &Message, record: &[u8]) -> bool {
+    let Message { number, transaction, length } = *message;
+    let written = || record.get(..length).and_then(|written| Record::parse(written).ok());
+    if number != 0 {
+        return *message == Message { number, ..Message::default() };
+    }
+    let is_current = || record.get(3..5) == Some(&Layout::CURRENT.version.to_be_bytes());
+    transaction <= 255
+        && is_current()
+        && written().is_some_and(|record| record.request.kind == CANCEL)
 }
 
 /// "A refusal hands back an empty part"; any other is the first buffer, whole, or lies in the list

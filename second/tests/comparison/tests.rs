@@ -67,6 +67,7 @@ fn a_call_reads_back_from_its_text() {
         Call::Segment { first: vec![], more: vec![0, 1, 7], k: usize::MAX },
         Call::Pack { bytes: vec![7], lengths: vec![1, u64::MAX], list: vec![] },
         Call::Convert { old: vec![0x50], table: vec![] },
+        Call::ReadCancel { message: vec![0, 21, 0], record: vec![] },
     ] {
         assert_eq!(Call::parse(&call.to_string()), Some(call));
     }

@@ -1,6 +1,6 @@
 //! What the entry points are given and what they return, as text.
 
-use second::{Broadcasts, Done, Reading, Request, Seconds};
+use second::{Broadcasts, Done, Message, Reading, Request, Seconds};
 
 use super::part::Part;
 
@@ -111,6 +111,17 @@ impl Returned for Part {
     fn text(&self) -> String {
         let Part { number, buffer, start, length } = self;
         format!("number {number}, buffer {buffer}, start {start}, length {length}")
+    }
+}
+
+impl Returned for Message {
+    fn text(&self) -> String {
+        let Message { number, transaction, length } = self;
+        format!("number {number}, transaction {transaction}, length {length}")
+    }
+
+    fn done(&self) -> Option<Done> {
+        Some(Done { number: self.number, length: self.length })
     }
 }
 

@@ -1,6 +1,6 @@
 //! The functions under comparison.
 
-use second::{Done, Reading, Request};
+use second::{Done, Message, Reading, Request};
 
 use super::entry_points::entry_points;
 use super::part::{self, Part};
@@ -47,4 +47,5 @@ pub const SOUND: Functions = Functions {
     item: second::item,
     segment: part::segment,
     pack: second::pack,
+    read_cancel: second::read_cancel,
 };
