@@ -1,6 +1,6 @@
 include host/machine.mk
 
-.PHONY: run test ready host-programs host-test peer-test second-test install bench bench-quick bench-plot bench-program
+.PHONY: run test ready host-programs host-test peer-test wire-peer tshark-there second-test install bench bench-quick bench-plot bench-program
 
 # One story, the script beside what the program reports of it: make run SCRIPT=examples/one-yard.txt
 SCRIPT ?= examples/example.txt
@@ -27,20 +27,26 @@ target/emulated/report: target/bin/report
 	@chmod +x $@
 
 # The host's programs. The tests are built with sanitizers; libpws.a itself is not instrumented.
-HOST_TESTS = samples wrapper rules edges segments periods conversion
-HOST_SCRIPTS = example compilers readme install ctest
+HOST_TESTS = samples wrapper rules edges segments periods conversion wire wire_encoding wire_elements
+HOST_EXAMPLES = two_yards cancel_from_wire
+HOST_SCRIPTS = example kept_messages compilers readme install ctest
 HOST_FLAGS = -std=c++20 -Wall -Wextra -Wpedantic -Wconversion -Werror -Ihost/include
 HOST_NEEDS = $(wildcard host/include/* host/tests/*.hpp) target/staticlib/libpws.a
 
-host-programs: $(HOST_TESTS:%=target/host/%) target/host/two_yards
+host-programs: $(HOST_TESTS:%=target/host/%) $(HOST_EXAMPLES:%=target/host/%) target/host/wire_messages
 
 $(HOST_TESTS:%=target/host/%): target/host/%: host/tests/%.cpp $(HOST_NEEDS)
 	@mkdir -p $(@D)
 	$(CXX) $(HOST_FLAGS) -g -fsanitize=$(SANITIZE) $< target/staticlib/libpws.a -o $@
 
-target/host/two_yards: host/example/two_yards.cpp $(HOST_NEEDS)
+$(HOST_EXAMPLES:%=target/host/%): target/host/%: host/example/%.cpp $(HOST_NEEDS)
 	@mkdir -p $(@D)
 	$(CXX) $(HOST_FLAGS) -O2 $< target/staticlib/libpws.a -o $@
+
+# What writes the kept messages needs no library.
+target/host/wire_messages: host/wire/wire_messages.cpp $(wildcard host/include/* host/tests/*.hpp)
+	@mkdir -p $(@D)
+	$(CXX) $(HOST_FLAGS) -Ihost/tests -g -fsanitize=$(SANITIZE) $< -o $@
 
 host-test: host-programs
 	@host/tests/all.sh $(HOST_TESTS:%=target/host/%) $(HOST_SCRIPTS:%=host/tests/%.sh)
@@ -48,7 +54,7 @@ host-test: host-programs
 # The same tests of the engine by hand, on any processor, with every line of it instrumented: so the wrapper and the tests meet
 # AddressSanitizer where libpws.a is emulated, and the peer meets the guard pages.
 PEER_FLAGS = -g -fsanitize=address,undefined -fno-sanitize-recover=all -DPWS_OTHER_LIBRARY
-PEER_NAMES = $(foreach name,build convert apply read write item segment pack,-Dpws_$(name)=peer_$(name))
+PEER_NAMES = $(foreach name,build convert apply read write item segment pack read_cancel,-Dpws_$(name)=peer_$(name))
 PEER_SOURCES = $(wildcard bench/*.cpp bench/peer/*.hpp) host/include/pws.h
 
 target/host/peer/peer.o: $(PEER_SOURCES)
@@ -58,8 +64,26 @@ target/host/peer/peer.o: $(PEER_SOURCES)
 $(HOST_TESTS:%=target/host/peer/%): target/host/peer/%: host/tests/%.cpp target/host/peer/peer.o $(wildcard host/include/* host/tests/*.hpp)
 	$(NATIVE_CXX) $(HOST_FLAGS) $(PEER_FLAGS) $(PEER_NAMES) $< target/host/peer/peer.o -o $@
 
-peer-test: $(HOST_TESTS:%=target/host/peer/%)
-	@RUN= host/tests/all.sh $^
+$(HOST_EXAMPLES:%=target/host/peer/%): target/host/peer/%: host/example/%.cpp target/host/peer/peer.o $(wildcard host/include/*)
+	$(NATIVE_CXX) $(HOST_FLAGS) $(PEER_FLAGS) $(PEER_NAMES) $< target/host/peer/peer.o -o $@
+
+target/host/peer/wire_messages: host/wire/wire_messages.cpp $(wildcard host/include/* host/tests/*.hpp)
+	@mkdir -p $(@D)
+	$(NATIVE_CXX) $(HOST_FLAGS) $(PEER_FLAGS) -Ihost/tests $< -o $@
+
+peer-test: $(HOST_TESTS:%=target/host/peer/%) $(HOST_EXAMPLES:%=target/host/peer/%) target/host/peer/wire_messages
+	@RUN= PROGRAMS=target/host/peer host/tests/all.sh $(HOST_TESTS:%=target/host/peer/%) host/tests/example.sh host/tests/kept_messages.sh
+
+# The kept messages read by tshark, which nobody here wrote. Not part of the gate: it needs the package tshark.
+# make wire-peer WIRE_READER=target/host/peer/cancel_from_wire asks the engine by hand instead of the library.
+WIRE_READER ?= target/host/cancel_from_wire
+
+wire-peer: tshark-there $(WIRE_READER)
+	@host/wire/tshark.sh $(WIRE_READER)
+
+# Before anything is built.
+tshark-there:
+	@host/wire/tshark.sh
 
 # The second implementation, compared with the library and with the program. Where these are emulated, so is what is linked to the
 # library, and nothing else.

@@ -1,5 +1,6 @@
 // The engine as a C++ team would write it by hand, to time the proved one against: in place on the bytes, with the same
 // tests for the same refusals. The surface is pws.h's with peer_ in front; documents 01 and 02 are the law here as there.
+#include "peer/cancel.hpp"
 #include "peer/convert.hpp"
 #include "peer/reach.hpp"
 #include "peer/record.hpp"
@@ -158,4 +159,28 @@ extern "C" pws_done peer_pack(const uint8_t *bytes, size_t bytes_length, const u
     }
     put_segments(list, bytes, lengths, count);
     return {0, length};
+}
+
+extern "C" pws_message peer_read_cancel(const uint8_t *message, size_t message_length, uint8_t *record, size_t record_length) {
+    Frame frame;
+    if (!take_frame({message, message + message_length}, frame)) {
+        return {13, 0, 0};
+    }
+    if (frame.choice != INITIATING_MESSAGE || frame.code != PWS_CANCEL) {
+        return {14, 0, 0};
+    }
+    Cancel cancel;
+    if (!judge_cancel(frame.value, cancel)) {
+        return {13, 0, 0};
+    }
+    if (const uint32_t number = cancel.refusal()) {
+        return {number, 0, 0};
+    }
+    const size_t length = RECORD_HEADER + ITEM * cancel.cells;
+    if (record_length < length) {
+        return {8, 0, 0};
+    }
+    put_fields(record, cancel.request(), cancel.cells);
+    put_cells(record + RECORD_HEADER, cancel.items, cancel.cells);
+    return {0, cancel.transaction, length};
 }

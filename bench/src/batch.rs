@@ -54,6 +54,7 @@ impl Batch {
             Call::Apply { table, .. } => (table.clone(), table.len()),
             Call::Read { record } | Call::Item { record, .. } => (vec![], record.len()),
             Call::Segment { more, .. } => (vec![], more.len()),
+            Call::ReadCancel { message, .. } => (vec![], message.len()),
             _ => (vec![], out.len()),
         };
         let calls = (BYTES / bytes).clamp(1, MOST_CALLS);
@@ -101,6 +102,7 @@ impl Batch {
             Call::Item { record, k } => repeat(calls, || unit.item(record, *k)),
             Call::Segment { first, more, k } => repeat(calls, || unit.segment(first, more, *k)),
             Call::Pack { bytes, lengths, .. } => repeat(calls, || unit.pack(bytes, lengths, out)),
+            Call::ReadCancel { message, .. } => repeat(calls, || unit.read_cancel(message, out)),
         }
     }
 }

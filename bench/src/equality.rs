@@ -14,6 +14,9 @@ const CALLS_ON_SEGMENTS: u64 = 20_000;
 /// Most of them on tables once they are converted.
 const CALLS_ON_CONVERSIONS: u64 = 20_000;
 
+/// Each thing that can be wrong with a message alone takes some 42,000.
+const CALLS_ON_CANCELS: u64 = 60_000;
+
 /// The calls compared, or the first difference.
 pub fn check(workloads: &[Workload]) -> Result<u64, Difference> {
     Ok(pair(&PEER, workloads)? + pair(&SECOND, workloads)?)
@@ -26,6 +29,7 @@ fn pair(other: &Implementation, workloads: &[Workload]) -> Result<u64, Differenc
     cases.run_largest_period()?;
     cases.run_segments(cases.compare.calls + CALLS_ON_SEGMENTS)?;
     cases.run_conversions(cases.compare.calls + CALLS_ON_CONVERSIONS)?;
+    cases.run_cancels(cases.compare.calls + CALLS_ON_CANCELS)?;
     for workload in workloads {
         cases.compare.call(workload.call.clone())?;
     }

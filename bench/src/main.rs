@@ -19,6 +19,7 @@ mod floor;
 mod given;
 mod growth;
 mod implementations;
+mod messages;
 mod pin;
 mod ratios;
 mod report;

@@ -5,19 +5,22 @@ use second::{Answer, Broadcasts, Cell, Layout, Record, Request, Seconds, Table};
 
 use crate::comparison::call::Call;
 use crate::comparison::lists::{packed, Packing, MOST};
+use crate::messages;
 use crate::tables::{heads, identity, old_table, table, Due, IDENTIFIER, SERIAL};
 
 pub const MOST_CELLS: usize = 512;
 const SIZES: [usize; 3] = [1, 16, MOST_CELLS];
 const RECORD_SIZES: [usize; 3] = [0, 1, 512];
 const LIST_SIZES: [usize; 3] = [1, 16, MOST];
+const MESSAGE_SIZES: [usize; 4] = [0, 1, 16, MOST_CELLS];
 /// Bytes of each segment, the first one too.
 const SEGMENT: usize = 82;
 const OTHER_SERIAL: u16 = 99;
 
 pub struct Workload {
     pub name: &'static str,
-    /// Cells of the table; of a record that is read or written, its items; of a list, its segments.
+    /// Cells of the table, or of a message; of a record that is read or written, its items; of a
+    /// list, its segments.
     pub size: usize,
     pub call: Call,
 }
@@ -146,6 +149,12 @@ fn lists(count: usize) -> Vec<(&'static str, Call)> {
     vec![("find the last segment", find), ("pack a list", pack)]
 }
 
+fn wire(cells: usize) -> Vec<(&'static str, Call)> {
+    let listed: Vec<u64> = (0..cells as u64).map(identity).collect();
+    let record = vec![0xee; Record::HEADER + Record::ITEM * cells];
+    vec![("read a cancel", Call::ReadCancel { message: messages::cancel(&listed), record })]
+}
+
 type Family = fn(usize) -> Vec<(&'static str, Call)>;
 
 fn family(of: Family, sizes: &[usize]) -> Vec<Workload> {
@@ -162,7 +171,8 @@ pub fn all() -> Vec<Workload> {
     let cells: [Family; 6] = [seconds, cancels, starts, resets, refusals, whole_tables];
     let of_cells = cells.into_iter().flat_map(|of| family(of, &SIZES));
     let of_records = family(records, &RECORD_SIZES);
-    of_cells.chain(of_records).chain(family(lists, &LIST_SIZES)).collect()
+    let of_lists = family(lists, &LIST_SIZES);
+    of_cells.chain(of_records).chain(of_lists).chain(family(wire, &MESSAGE_SIZES)).collect()
 }
 
 /// A second over so many full cells, none due.

@@ -1,7 +1,8 @@
 /* The proved bookkeeping of public warnings in a radio unit: C surface of libpws.a.
  *
- * All tables, records, answers and lists are byte buffers of the caller's, big-endian, laid out as documents 01 and 02 say. No
- * function allocates, keeps a pointer, blocks or throws; each comes back for every content and every length of its buffers.
+ * All tables, records, answers and lists are byte buffers of the caller's, big-endian, laid out as documents 01 and 02 say;
+ * messages are F1AP's own, in aligned PER. No function allocates, keeps a pointer, blocks or throws; each comes back for every
+ * content and every length of its buffers.
  *
  * What the caller must see to (nothing else can be asked for):
  *   - a pointer is never null, not even where its length is 0: lend the address of any byte then;
@@ -28,6 +29,11 @@
  *      one is above 65,535
  *  11  more than 63 segments in the list
  *  12  no segment k: the list ends before it
+ *  13  message cut short or badly encoded: bytes behind an end, a fragmented length, a set padding or extension bit, and whatever
+ *      else an encoder of aligned PER cannot have written; of another message only the outer frame is judged
+ *  14  another message
+ *  15  an unknown element marked reject, at whatever depth
+ *  16  a mandatory element is missing, a list item's own among them; or a known element is repeated or out of order
  */
 #ifndef PWS_H
 #define PWS_H
@@ -78,6 +84,13 @@ typedef struct {
     size_t length;
 } pws_part;
 
+/* 0, the message's transaction identifier (0 to 255) and the length of the record written. Or a refusal, and everything else 0. */
+typedef struct {
+    uint32_t number;
+    uint32_t transaction;
+    size_t length;
+} pws_message;
+
 /* Writes an empty table of heads_length / 24 cells at the start of table: 16 + 120 N bytes, which is the length returned.
  * The bytes behind them stay. Refusals: 9, then 8. */
 pws_done pws_build(const uint8_t *heads, size_t heads_length, uint8_t *table, size_t table_length);
@@ -127,6 +140,18 @@ pws_part pws_segment(const uint8_t *first, size_t first_length, const uint8_t *m
  * the start of list, which is the length returned; the bytes behind them stay. Each list has this one packing, and
  * pws_segment gives its segments back. Refusals in this order: 10, 11, 8. */
 pws_done pws_pack(const uint8_t *bytes, size_t bytes_length, const uint64_t *lengths, size_t count, uint8_t *list, size_t list_length);
+
+/* Reads an F1AP PWS CANCEL REQUEST, lent as it came, with its exact length, and writes it as a Cancel record of version 2 at the
+ * start of record: 26 + 8 n bytes for n listed cells, which is the length returned. The bytes behind them stay; 4122 bytes hold
+ * every record that there is. pws_apply takes the record, and the answer to the message needs the transaction identifier.
+ *
+ * The record has flag 2 for the message's cancel-all indicator, flag 4 with identifier and serial number for its notification
+ * information, both for both; NumberofBroadcastRequest as requested; and the listed cells in their order, repeats among them.
+ * Without a list it has no area: it is for every cell. Unknown elements marked ignore or notify are skipped wherever they stand,
+ * so messages that differ in these alone give the same record. A known element's criticality is not read.
+ *
+ * Refusals in this order, each over the whole message: 13, 14, 15, 16, 7 (neither indicator), 8 (record shorter than this one). */
+pws_message pws_read_cancel(const uint8_t *message, size_t message_length, uint8_t *record, size_t record_length);
 
 #ifdef __cplusplus
 }

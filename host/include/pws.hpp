@@ -7,6 +7,7 @@
 
 #include "pws_calls.hpp"
 #include "pws_segments.hpp"
+#include "pws_wire.hpp"
 
 #include <algorithm>
 #include <array>

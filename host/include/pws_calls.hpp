@@ -29,6 +29,10 @@ enum class Refusal : std::uint32_t {
     list_damaged = 10,
     too_many_segments = 11,
     no_such_segment = 12,
+    badly_encoded = 13,
+    other_message = 14,
+    unknown_element = 15,
+    wrong_elements = 16,
 };
 
 constexpr std::string_view text(Refusal refusal) noexcept {
@@ -50,6 +54,12 @@ constexpr std::string_view text(Refusal refusal) noexcept {
         return "the list ends inside a length or a segment; or the lengths to pack don't add up to the bytes, or one is above 65535";
     case Refusal::too_many_segments: return "the list has more than 63 segments";
     case Refusal::no_such_segment: return "the list ends before the segment asked for";
+    case Refusal::badly_encoded:
+        return "the message is cut short or badly encoded: its bytes are not those of aligned PER, or a length is fragmented or an "
+               "extension bit set";
+    case Refusal::other_message: return "the message is another one than the reader takes";
+    case Refusal::unknown_element: return "the message has an unknown element that is marked reject";
+    case Refusal::wrong_elements: return "the message lacks a mandatory element, or a known one is repeated or out of order";
     }
     return "a number that is no refusal";
 }

@@ -11,6 +11,7 @@ struct Left {
     size_t length;
     std::vector<Bytes> buffers;
     bool alone;
+    uint32_t transaction = 0; // of a message alone
 
     bool operator==(const Left &) const = default;
 };
@@ -52,6 +53,12 @@ inline Left pack_at(Flush flush, const Bytes &bytes, const std::vector<uint64_t>
     return {done.number, done.length, {to.bytes()}, from.alone() && by.alone() && to.alone()};
 }
 
+inline Left read_cancel_at(Flush flush, const Bytes &message, const Bytes &record) {
+    const Guarded from(message, flush, Lent::for_reading), to(record, flush, Lent::for_writing);
+    const pws_message read = pws_read_cancel(from.data(), from.size(), to.data(), to.size());
+    return {read.number, read.length, {to.bytes()}, from.alone() && to.alone(), read.transaction};
+}
+
 // Whether a call gave this number and length, the same at both guards, and left what it must: every byte if refused, those
 // behind what was written if not. The first buffer is the one written from its start.
 inline bool gave(uint32_t number, size_t length, const Left &at_end, const Left &at_front, const std::vector<Bytes> &before) {
@@ -87,6 +94,12 @@ inline bool write_gives(uint32_t number, size_t length, const pws_request &reque
 
 inline bool pack_gives(uint32_t number, size_t length, const Bytes &bytes, const std::vector<uint64_t> &lengths, const Bytes &list) {
     return gave(number, length, pack_at(Flush::end, bytes, lengths, list), pack_at(Flush::front, bytes, lengths, list), {list});
+}
+
+// A refusal gives no transaction identifier either.
+inline bool read_cancel_gives(uint32_t number, uint32_t transaction, size_t length, const Bytes &message, const Bytes &record) {
+    const Left at_end = read_cancel_at(Flush::end, message, record), at_front = read_cancel_at(Flush::front, message, record);
+    return gave(number, length, at_end, at_front, {record}) && at_end.transaction == transaction && (number == 0 || transaction == 0);
 }
 
 // The fields are compared with the record's own bytes, at the places that document 01 gives them.

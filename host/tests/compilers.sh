@@ -1,5 +1,5 @@
 #!/usr/bin/env bash
-# The headers compile without a warning: pws.h as C, each C++ header alone and the example as C++20 with and without
+# The headers compile without a warning: pws.h as C, each C++ header alone and the examples as C++20 with and without
 # exceptions, by each compiler that is installed. What they are not for is refused with a sentence.
 set -euo pipefail
 cd "$(dirname "$0")/../.."
@@ -18,7 +18,9 @@ for with in "${CXX:-g++}" "${CLANG:-clang++}"; do
         for header in host/include/*.hpp; do
             check "$header alone, $with $language" "${compiler[@]}" -x c++ "${flags[@]}" "${warnings[@]}" "$header"
         done
-        check "the example, $with $language" "${compiler[@]}" "${flags[@]}" "${warnings[@]}" -Ihost/include host/example/two_yards.cpp
+        for example in host/example/*.cpp; do
+            check "$example, $with $language" "${compiler[@]}" "${flags[@]}" "${warnings[@]}" -Ihost/include "$example"
+        done
     done
 done
 

@@ -15,6 +15,7 @@ installed() {
 ./include/pws.hpp
 ./include/pws_calls.hpp
 ./include/pws_segments.hpp
+./include/pws_wire.hpp
 ./lib/cmake/pws/pws-config-version.cmake
 ./lib/cmake/pws/pws-config.cmake
 ./lib/libpws.a
@@ -36,7 +37,7 @@ finds() {
 }
 
 finds_no_other_version() {
-    for other in 0.1.0 0.1 "${version%.*}.99" "$((${version%%.*} + 1)).0.0"; do
+    for other in 0.1.0 0.1 0.2.0 "${version%.*}.99" "$((${version%%.*} + 1)).0.0"; do
         ! finds "$other" || return 1
     done
 }

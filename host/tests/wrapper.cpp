@@ -15,6 +15,7 @@ static_assert(!std::is_convertible_v<int, pws::Seconds> && !std::is_convertible_
 static_assert(noexcept(pws::build({}, {})) &&noexcept(pws::convert({}, {})) &&noexcept(pws::apply({}, {}, {})));
 static_assert(noexcept(pws::read({})) &&noexcept(pws::write({}, {}, {})) &&noexcept(pws::item({}, 0)) &&noexcept(pws::text({})));
 static_assert(noexcept(pws::segment({}, {}, 0)) &&noexcept(pws::pack({}, {}, {})) && !std::is_convertible_v<pws::Part, bool>);
+static_assert(noexcept(pws::read_cancel({}, {})) && !std::is_convertible_v<pws::Message, bool>);
 
 static constexpr pws::Request FLOOD{.kind = pws::Kind::write_replace,
                                     .flags = pws::Flags::concurrent,
@@ -30,11 +31,11 @@ static constexpr pws::Request SECOND_PASSES{.kind = pws::Kind::second};
 
 static void texts() {
     std::set<std::string_view> distinct;
-    for (uint32_t number = 0; number <= 13; ++number) {
+    for (uint32_t number = 0; number <= 17; ++number) {
         distinct.insert(pws::text(static_cast<pws::Refusal>(number)));
     }
-    expect(distinct.size() == 14 && !distinct.contains(""), "0, each refusal and a number beyond them have texts of their own");
-    expect(pws::text(static_cast<pws::Refusal>(UINT32_MAX)) == pws::text(static_cast<pws::Refusal>(13)), "numbers beyond share one text");
+    expect(distinct.size() == 18 && !distinct.contains(""), "0, each refusal and a number beyond them have texts of their own");
+    expect(pws::text(static_cast<pws::Refusal>(UINT32_MAX)) == pws::text(static_cast<pws::Refusal>(17)), "numbers beyond share one text");
 }
 
 static void sizes() {
@@ -186,6 +187,30 @@ static void pack_then_ask() {
     expect(!damaged && damaged.refusal == pws::Refusal::list_damaged && damaged.bytes.empty(), "a refused part is empty");
 }
 
+// A message becomes a record, which applies as one that was written does.
+static void read_then_apply() {
+    Bytes table = table_of({cell(head(FIRST, 1), {place(4370, 2, 3, 2, 1)})});
+    Bytes record(pws::record_size(1) + 1, 0xee), answer(pws::answer_size(1, pws::Kind::cancel));
+    const Bytes message = hex("0015002b 000004 004e000200fe 008e00020003 0094000f0000 009500090000f1100000000100 00dc00050444800400");
+    const pws::Message cancel = pws::read_cancel(message, record);
+    expect(bool(cancel) && cancel.transaction == 254 && cancel.record.data() == record.data() && cancel.record.size() == 34 &&
+               record[34] == 0xee,
+           "a cancel is read from a message");
+    const pws::Request wanted{.kind = pws::Kind::cancel,
+                              .flags = pws::Flags::notification,
+                              .area = pws::Area::cells,
+                              .identifier = 4370,
+                              .serial = 16,
+                              .requested = pws::Broadcasts{3}};
+    const pws::Reading reading = pws::read(cancel.record);
+    expect(reading.request == wanted && reading.items == 1 && pws::item(cancel.record, 0) == FIRST, "its record reads as the message says");
+    const std::array<pws::Row, 1> stopped{{{FIRST, pws::Broadcasts{2}, 0}}};
+    expect(std::ranges::equal(pws::Answer{pws::apply(table, cancel.record, answer).written}, stopped), "and it cancels");
+    expect(pws::read_cancel({}, record).refusal == pws::Refusal::badly_encoded, "no message");
+    expect(pws::read_cancel({}, {}).refusal == pws::Refusal::badly_encoded, "no message, and no room");
+    expect(pws::read_cancel(message, {}).refusal == pws::Refusal::short_buffer, "no room for a record of a message");
+}
+
 static void refusals_leave_buffers() {
     Bytes table(pws::table_size(1)), record(pws::record_size(1), 0xee), answer(pws::answer_size(1, pws::Kind::second) - 1, 0xee);
     expect(bool(pws::build(head(FIRST, 1), table)), "a table of one cell");
@@ -201,11 +226,14 @@ static void refusals_leave_buffers() {
     const pws::Done unbuilt = pws::build(head(uint64_t{1} << 60, 1), table);
     expect(unbuilt.refusal == pws::Refusal::bad_heads && unbuilt.written.empty() && table == table_before, "a refused table");
     const pws::Done unconverted = pws::convert(TABLE, table);
-    expect(unconverted.refusal == pws::Refusal::table_mark && unconverted.written.empty() && table == table_before,
-           "a refused conversion");
+    expect(unconverted.refusal == pws::Refusal::table_mark && unconverted.written.empty() && table == table_before, "a refused conversion");
     const std::array<uint64_t, 64> many{};
     const pws::Done unpacked = pws::pack({}, many, table);
     expect(unpacked.refusal == pws::Refusal::too_many_segments && unpacked.written.empty() && table == table_before, "a refused list");
+    const pws::Message unread = pws::read_cancel(hex("00150001 00"), table);
+    expect(!unread && unread.refusal == pws::Refusal::badly_encoded && unread.transaction == 0 && unread.record.empty() &&
+               table == table_before,
+           "a refused message");
 }
 
 int main() {
@@ -219,6 +247,7 @@ int main() {
     convert_then_apply();
     empty_texts();
     pack_then_ask();
+    read_then_apply();
     refusals_leave_buffers();
     return report();
 }
