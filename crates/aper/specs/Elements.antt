@@ -58,9 +58,16 @@ under contents h = as-if (λ c. record { id = h .0; criticality = h .1; contents
 unfoldable pub holding : {C : Type 0} → (ℕ → Format C) → Format (Element C)
 holding contents = behind head (λ e. (e .id, e .criticality)) (under contents)
 
--- "A known element's criticality is not read"; of an unknown one 3 is no value
+-- reject; ignore and notify are 1 and 2, and there is no other
+abbrev pub reject : ℕ
+reject = 0
+
+abbrev pub criticalities : ℕ
+criticalities = 3
+
+-- "A known element's criticality is not read"; of an unknown one it is one of three
 unfoldable pub proper : {C : Type 0} → (ℕ → Bool) → Element C → Bool
-proper known e = known (e .id) || ltb (e .criticality) 3
+proper known e = known (e .id) || ltb (e .criticality) criticalities
 
 unfoldable pub elementOf : {C : Type 0} → (ℕ → Bool) → (ℕ → Format C) → Format (Element C)
 elementOf known contents = only (proper known) (holding contents)
@@ -105,4 +112,4 @@ given p = only (λ es. eqb (presence es) p) (optional p)
 
 -- marked reject
 abbrev pub marked : {C : Type 0} → Element C → Bool
-marked e = eqb (e .criticality) 0
+marked e = eqb (e .criticality) reject

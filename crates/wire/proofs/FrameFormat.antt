@@ -5,7 +5,7 @@ use Prim.Native.Nat.{ℕ}
 use lib.Dec.{ltb}
 use Rattle.formats.specs.Format.{Found, nothing, found, after, allOf, Format, number, opaque, pair, behind, as-if, inside}
 use Rattle.formats.specs.Bits.{Field, width, joined, cut, bits}
-use Rattle.formats.proofs.FormatLaws.{Lawful, Alone, alone, number-lawful, opaque-alone, pair-lawful, behind-lawful, only-lawful, as-if-lawful, inside-lawful}
+use Rattle.formats.proofs.FormatLaws.{Lawful, Alone, number-lawful, pair-lawful, behind-lawful, only-lawful, as-if-lawful, inside-lawful}
 use Rattle.formats.proofs.BitsLaws.{bits-lawful}
 use Rattle.aper.specs.Elements.{openType, twoBits}
 use Rattle.aper.proofs.ElementLaws.{openType-lawful, openType-held, twoBits-lawful}
@@ -44,20 +44,17 @@ module _ {C : Type 0} (f : Format C) (F : Alone f) where
   unfolding frame
   frame-lawful = behind-lawful twoBits (λ m. m .choice) (frameUnder f) twoBits-lawful frameUnder-lawful frame-said
 
-pub outer-alone : Alone outer
-outer-alone = alone (frame opaque) (frame-lawful opaque opaque-alone)
-
 -- ---- what is framed is looked into after the frame was read
 
 module _ {C : Type 0} (f : Format C) where
   abbrev framing : {D : Type 0} → ℕ → ℕ × (ℕ × D) → Frame D
   framing choice p = record { choice = choice; code = p .0; criticality = p .1 .0; value = p .1 .1 }
 
-  abbrev pub holding : Frame (List ℕ) → C → Frame C
-  holding m c = record { choice = m .choice; code = m .code; criticality = m .criticality; value = c }
+  abbrev pub withValue : Frame (List ℕ) → C → Frame C
+  withValue m c = record { choice = m .choice; code = m .code; criticality = m .criticality; value = c }
 
   abbrev pub framedInto : Found (Frame (List ℕ)) → Found (Frame C)
-  framedInto x = after x (λ m r. after (allOf (f .parse (m .value)) r) (λ c s. found (holding m c) s))
+  framedInto x = after x (λ m r. after (allOf (f .parse (m .value)) r) (λ c s. found (withValue m c) s))
 
   -- the parts behind a choice, with any reading of what the open type holds
   behindChoice : {D : Type 0} → (List ℕ → Found D) → ℕ → Found ℕ → Found (Frame D)
@@ -73,7 +70,7 @@ module _ {C : Type 0} (f : Format C) where
     where
       fourth : (crit : ℕ) (c t : List ℕ) (z : Found C)
           → after {A = ℕ × (ℕ × C)} (after {A = ℕ × C} (after z (λ v s. found (crit, v) s)) (λ q s. found (code, q) s)) (λ p s. found (framing choice p) s)
-          ≡ after z (λ v s. found (holding (framing choice (code, (crit, c))) v) s)
+          ≡ after z (λ v s. found (withValue (framing choice (code, (crit, c))) v) s)
       fourth crit c t nothing = refl
       fourth crit c t (found v s) = refl
 

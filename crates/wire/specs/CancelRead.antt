@@ -88,10 +88,12 @@ saidIn b = said (messageElements b)
 abbrev pub recordRoom : Cancel → ℕ
 recordRoom c = recordSize + itemSize current * length (c .cells)
 
+-- 7, then 8
+abbrev pub laterTests : Cancel → ℕ → List Test
+laterTests c room = test (cancelsSome (cancelRequest c)) CancelsNothing ∷ test (fitsIn (recordRoom c) room) ShortBuffer ∷ []
+
 abbrev pub cancelTests : List ℕ → ℕ → List Test
-cancelTests b room =
-    messageTests b
-    ++ (test (cancelsSome (cancelRequest (saidIn b))) CancelsNothing ∷ test (fitsIn (recordRoom (saidIn b)) room) ShortBuffer ∷ [])
+cancelTests b room = messageTests b ++ laterTests (saidIn b) room
 
 unfoldable pub cancelVerdict : List ℕ → ℕ → Verdict
 cancelVerdict b room = firstOf (cancelTests b room)

@@ -5,7 +5,7 @@ use Prim.Native.Nat.{ℕ}
 use lib.Dec.{eqb, ltb}
 use Rattle.formats.specs.Format.{Format, number, opaque, pair, behind, only, as-if, inside}
 use Rattle.formats.specs.Bits.{Field, pad}
-use Rattle.aper.specs.Elements.{openType, twoBits}
+use Rattle.aper.specs.Elements.{openType, twoBits, criticalities}
 
 pub record Frame (C : Type 0) : Type 0 where
   pub choice : ℕ
@@ -30,7 +30,7 @@ codeSize choice = cond (eqb choice choiceExtension) 2 1
 
 -- reject, ignore or notify
 unfoldable pub frameCriticality : Format ℕ
-frameCriticality = only (λ c. ltb c 3) twoBits
+frameCriticality = only (λ c. ltb c criticalities) twoBits
 
 unfoldable pub frameUnder : {C : Type 0} → Format C → ℕ → Format (Frame C)
 frameUnder f choice =

@@ -31,10 +31,14 @@ const NOTIFICATION: u16 = 220;
 // An item's bytes without extensions, and the last of them.
 const ITEM_BYTES: usize = 9;
 
-const LAST_OF_ITEM: usize = 8;
+const LAST_OF_ITEM: usize = ITEM_BYTES - 1;
 
-// Such an item in the list, behind its id, criticality and length.
-const LISTED_BYTES: usize = 13;
+// Such an item in the list stands behind its id, criticality and length.
+const LISTED_HEAD: usize = 4;
+
+const LISTED_BYTES: usize = LISTED_HEAD + ITEM_BYTES;
+
+const LAST_LISTED: usize = LISTED_HEAD + LAST_OF_ITEM;
 
 // Its id and its length as they stand in its first four bytes.
 const ITEM_ID: u32 = ITEM as u32;
@@ -185,8 +189,8 @@ fn plain_item(s: &[u8], at: usize) -> bool
         return false;
     }
     let head = get32(s, at);
-    let flags = get8(s, at + 4);
-    let last = get8(s, at + 12);
+    let flags = get8(s, at + LISTED_HEAD);
+    let last = get8(s, at + LAST_LISTED);
     (head / 65536 == ITEM_ID) & (head % 16384 == PLAIN_LENGTH) & (flags == 0) & (last % 16 == 0)
 }
 

@@ -24,7 +24,7 @@ use Rattle.aper.proofs.StepLaws.{head-there, length-there, by-length}
 use Rattle.wire.specs.Cells.{Entry, entryElement}
 use Rattle.wire.specs.CancelRefusals.{isForeign, foreignEntry}
 use Rattle.wire.specs.CancelRead.{identities}
-use Rattle.wire_cancel.specs.Taken.{cellsIn}
+use Rattle.wire_cancel.specs.Taken.{cellsListed}
 use Rattle.formats.proofs.FoundLaws.{Several, several-more, several-none}
 use Rattle.wire_cancel.proofs.WholeListLaws.{Entries, no-cells, some-counted}
 use Rattle.wire_cancel.proofs.NamesLaws.{Names, entry-none, entry-ends, entry-names}
@@ -39,16 +39,16 @@ pub record ToCome (before l buffer : List ℕ) (left at out : ℕ) : Type 0 wher
   pub own : any foreignEntry entries ≡ false
   pub long : length buffer ≡ length before
   pub room : out + 8 * left ≤ length buffer
-  pub same : sets before recordSize (stored (cellsIn l)) ≡ sets buffer out (stored (identities entries))
+  pub same : sets before recordSize (stored (cellsListed l)) ≡ sets buffer out (stored (identities entries))
 
 -- ---- its start
 
 module _ (before l : List ℕ) where
-  pub none-come : length l ≡ 0 → before ≡ sets before recordSize (stored (cellsIn l))
+  pub none-come : length l ≡ 0 → before ≡ sets before recordSize (stored (cellsListed l))
   unfolding flatMap
   none-come e = rw (no-cells l e)
 
-  pub come-start : (a : Entries l) {m : ℕ} → m ≡ be (gets l 0 2) → recordSize + itemSize current * length (cellsIn l) ≤ length before → ToCome before l before (m + 1) 2 26
+  pub come-start : (a : Entries l) {m : ℕ} → m ≡ be (gets l 0 2) → recordSize + itemSize current * length (cellsListed l) ≤ length before → ToCome before l before (m + 1) 2 26
   come-start a {m} e fits =
       record {
         entries = a .all;
@@ -63,7 +63,7 @@ module _ (before l : List ℕ) where
 -- ---- a turn
 
 module _ {before l buffer : List ℕ} {left at out : ℕ} (w : ToCome before l buffer left at out) where
-  pub come-done : left ≤ 0 → buffer ≡ sets before recordSize (stored (cellsIn l))
+  pub come-done : left ≤ 0 → buffer ≡ sets before recordSize (stored (cellsListed l))
   unfolding identities flatMap
   come-done none =
       let e : left ≡ 0 = omega arith in

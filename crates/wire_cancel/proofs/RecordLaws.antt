@@ -24,7 +24,7 @@ use Rattle.wire.specs.Cells.{Entry, list}
 use Rattle.wire.specs.CancelRead.{Cancel, flagsOf, areaNamed, cancelRequest, recordRoom, recordOf}
 use Rattle.wire_judge.specs.Account.{listAt, accountBy, WholeList, Lies}
 use Rattle.wire_judge.specs.declared.Seen.{Seen}
-use Rattle.wire_cancel.specs.Taken.{cellsIn, areaBy, requestBy, recorded}
+use Rattle.wire_cancel.specs.Taken.{cellsListed, areaBy, requestBy, recorded}
 
 -- ---- what was seen
 
@@ -46,17 +46,17 @@ module _ (l : List ℕ) (s : Seen) where
   abbrev pub Says : Cancel
   Says = accountBy l s .says
 
-  pub cells-said : cellsIn part ≡ Says .cells
-  unfolding accountBy listAt cellsIn
+  pub cells-said : cellsListed part ≡ Says .cells
+  unfolding accountBy listAt cellsListed
   cells-said = refl
 
   pub some-said : cancelsSome (cancelRequest Says) ≡ (s .all || s .noted)
   unfolding cancelsNothing cancelRequest accountBy
   some-said = flags-some (s .all) (s .noted)
 
-  pub request-said : {n : ℕ} → n ≡ length (cellsIn part) → requestBy s n ≡ cancelRequest Says
-  unfolding requestBy cancelRequest accountBy listAt cellsIn
-  request-said e = rw (e, area-named (cellsIn part))
+  pub request-said : {n : ℕ} → n ≡ length (cellsListed part) → requestBy s n ≡ cancelRequest Says
+  unfolding requestBy cancelRequest accountBy listAt cellsListed
+  request-said e = rw (e, area-named (cellsListed part))
 
   pub part-whole : Lies l s → s .lacks ≡ false → WholeList (length part) false (list .parse part)
   part-whole lies own = unfold listAt in of (list .parse part) (lies .list)

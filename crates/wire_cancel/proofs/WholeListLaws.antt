@@ -19,7 +19,7 @@ use Rattle.wire.specs.Cells.{Entry, listed, foreign, entryElement, list}
 use Rattle.wire.specs.CancelRefusals.{isForeign, foreignEntry}
 use Rattle.wire.specs.CancelRead.{identityIn, identities}
 use Rattle.wire_judge.specs.Account.{entriesIn, WholeList}
-use Rattle.wire_cancel.specs.Taken.{cellsIn, CellsCounted}
+use Rattle.wire_cancel.specs.Taken.{cellsListed, CellsCounted}
 use Rattle.formats.proofs.FoundLaws.{several-length}
 
 -- ---- the cells of entries, one for each
@@ -43,15 +43,15 @@ pub record Entries (l : List ℕ) : Type 0 where
   pub few : be (gets l 0 2) < 512
   pub come : several entryElement (be (gets l 0 2) + 1) (drop 2 l) ≡ found all []
   pub own : any foreignEntry all ≡ false
-  pub cells : cellsIn l ≡ identities all
+  pub cells : cellsListed l ≡ identities all
 
 module _ (l : List ℕ) where
   list-cut : length l < 2 → list .parse l ≡ nothing
   unfolding list behind fromOne as-if only
   list-cut h = rw (number-cut l 0 2 2 refl (omega arith) h)
 
-  pub no-cells : length l ≡ 0 → cellsIn l ≡ []
-  unfolding cellsIn identities flatMap
+  pub no-cells : length l ≡ 0 → cellsListed l ≡ []
+  unfolding cellsListed identities flatMap
   no-cells e = rw (list-cut (omega arith))
 
   pub none-counted : length l ≡ 0 → CellsCounted l 0
@@ -83,7 +83,7 @@ module _ (l : List ℕ) where
           few = few;
           come = sym (list-come long few) ∙ e;
           own = whole refl;
-          cells = unfold cellsIn in ap (λ (x : Found (List (Element Entry))). identities (entriesIn x)) e;
+          cells = unfold cellsListed in ap (λ (x : Found (List (Element Entry))). identities (entriesIn x)) e;
         })
         (λ u. absurd (nothing-found es [] (sym (list-many long (ltb-false (be (gets l 0 2)) 512 u)) ∙ e))))
     entries-of (found es (b ∷ bs)) e whole = absurd whole

@@ -1,29 +1,28 @@
 -- What the functions of this crate answer: the record of what a message says, and all that reading it leaves.
 use mathlib.Core.Path.{_≡_}
 use mathlib.Core.Bool.{cond}
-use mathlib.Core.List.{List, [], _∷_}
+use mathlib.Core.List.{List}
 use Prim.Native.Nat.{ℕ, _≤_}
 use lib.Dec.{eqb}
 use lib.ListN.{length}
 use Rattle.rules.specs.Layout.{mostItems}
 use Rattle.rules.specs.Record.{cancelOrKill, noArea, cellArea}
-use Rattle.rules.specs.Refusals.{numberOf, test, firstOf, cancelsSome, fitsIn}
+use Rattle.rules.specs.Refusals.{numberOf, firstOf}
 use Rattle.rules.specs.Applied.{Filled, fill}
 use Rattle.rules.specs.declared.Request.{Request}
-use Rattle.rules.specs.declared.Refusal.the-variants.{CancelsNothing, ShortBuffer}
 use Rattle.wire.specs.Cells.{list}
-use Rattle.wire.specs.CancelRead.{Cancel, flagsOf, cancelRequest, identities, recordRoom, recordOf, MessageOutcome}
+use Rattle.wire.specs.CancelRead.{Cancel, flagsOf, identities, laterTests, recordOf, MessageOutcome}
 use Rattle.wire_judge.specs.Account.{entriesIn}
 use Rattle.wire_judge.specs.declared.Seen.{Seen}
 use Rattle.wire_cancel.specs.declared.Taking.{Taking}
 use Rattle.wire_cancel.specs.declared.Taking.the-variants.{Taken, Untaken}
 
 -- the cells that a list of these bytes names
-unfoldable pub cellsIn : List ℕ → List ℕ
-cellsIn l = identities (entriesIn (list .parse l))
+unfoldable pub cellsListed : List ℕ → List ℕ
+cellsListed l = identities (entriesIn (list .parse l))
 
 pub record CellsCounted (l : List ℕ) (n : ℕ) : Type 0 where
-  pub counts : n ≡ length (cellsIn l)
+  pub counts : n ≡ length (cellsListed l)
   pub few : n ≤ mostItems
 
 -- no area without cells
@@ -47,8 +46,7 @@ requestBy s n =
 
 -- 7, then 8
 unfoldable pub recorded : Cancel → List ℕ → Filled
-recorded c buffer =
-    fill (firstOf (test (cancelsSome (cancelRequest c)) CancelsNothing ∷ test (fitsIn (recordRoom c) (length buffer)) ShortBuffer ∷ [])) (recordOf c) buffer
+recorded c buffer = fill (firstOf (laterTests c (length buffer))) (recordOf c) buffer
 
 abbrev pub takenBy : Taking → List ℕ → MessageOutcome
 takenBy (Taken t n) buffer = record { number = 0; transaction = t; length = n; buffer = buffer }

@@ -13,7 +13,7 @@ ghost use Rattle.rules.specs.Layout.{current, itemSize, recordSize};
 ghost use Rattle.wire.specs.Cells.{list};
 ghost use Rattle.wire.specs.CancelRead.{cancelRead, flagsOf};
 ghost use Rattle.wire_judge.specs.Account.{Lies, WholeList, accountBy};
-ghost use Rattle.wire_cancel.specs.Taken.{cellsIn, CellsCounted, areaBy, requestBy, recorded, takenBy};
+ghost use Rattle.wire_cancel.specs.Taken.{cellsListed, CellsCounted, areaBy, requestBy, recorded, takenBy};
 use aper::Length;
 use aper::length_at;
 use octets::get16;
@@ -70,8 +70,8 @@ fn identity_at(s: &[u8], at: usize) -> CellIdentity
 // Every cell of the list, as items behind the record's fields. The list was judged: of an entry its length alone is read again.
 fn put_cells(buffer: &mut [u8], cells: &[u8])
     requires { ⌜ WholeList (length (now cells)) false (list .parse (now cells)) ⌝ }
-    requires { ⌜ recordSize + itemSize current * length (cellsIn (now cells)) ≤ length (now buffer) ⌝ }
-    ensures { λ _. ⌜ now (buffer .exit) ≡ sets (now (buffer .entry)) recordSize (flatMap (toBe (itemSize current)) (cellsIn (now (cells .entry)))) ⌝ }
+    requires { ⌜ recordSize + itemSize current * length (cellsListed (now cells)) ≤ length (now buffer) ⌝ }
+    ensures { λ _. ⌜ now (buffer .exit) ≡ sets (now (buffer .entry)) recordSize (flatMap (toBe (itemSize current)) (cellsListed (now (cells .entry)))) ⌝ }
 {
     if cells.len() == 0 {
         return;

@@ -17,7 +17,7 @@ use Rattle.wire.specs.Frame.{Frame, outer}
 use Rattle.wire.specs.CancelRequest.{Elements, value, request}
 use Rattle.wire.specs.CancelRefusals.{isCancel, cancelIn, isThis, whole, wellEncoded, valueIn, messageElements, rejecting, lacking, knownIds, inOrder, complete, messageVerdict}
 use Rattle.wire.specs.CancelRead.{said, saidIn}
-use Rattle.wire.proofs.FrameFormat.{holding, framedInto, frame-into}
+use Rattle.wire.proofs.FrameFormat.{withValue, framedInto, frame-into}
 use Rattle.wire_judge.specs.Account.{Account, openAccount, accounted, accountBy}
 use Rattle.wire_judge.specs.Readers.{ours, FramedAs, WalkedOver, FitMessage}
 use Rattle.wire_judge.specs.declared.Seen.{Seen}
@@ -34,7 +34,7 @@ Into x = framedInto value x
 
 -- ---- no frame, or another message's
 
-behind-end : (m : Frame (List ℕ)) (c : ℕ) (cs : List ℕ) (y : Found Elements) → whole (after (allOf y (c ∷ cs)) (λ v s. found (holding value m v) s)) ≡ false
+behind-end : (m : Frame (List ℕ)) (c : ℕ) (cs : List ℕ) (y : Found Elements) → whole (after (allOf y (c ∷ cs)) (λ v s. found (withValue value m v) s)) ≡ false
 behind-end m c cs nothing = refl
 behind-end m c cs (found v []) = refl
 behind-end m c cs (found v (d ∷ ds)) = refl
@@ -79,10 +79,10 @@ framed-ours (found m []) l e =
     let same = same-bytes m l (found-value (l ∷ []) (ours m) [] [] e) in
     record {
       this = same .0;
-      broken = λ n. ap (λ (y : Found Elements). whole (after y (λ v s. found (holding value m v) s))) (ap (λ (k : List ℕ). allOf (value .parse k) []) (same .1) ∙ n);
+      broken = λ n. ap (λ (y : Found Elements). whole (after y (λ v s. found (withValue value m v) s))) (ap (λ (k : List ℕ). allOf (value .parse k) []) (same .1) ∙ n);
       fits = λ es p.
           let there : value .parse (m .value) ≡ found es [] = ap (value .parse) (same .1) ∙ p in
-          (ap (λ (y : Found Elements). whole (after (allOf y []) (λ v s. found (holding value m v) s))) there, ap (λ (y : Found Elements). valueIn (after (allOf y []) (λ v s. found (holding value m v) s))) there);
+          (ap (λ (y : Found Elements). whole (after (allOf y []) (λ v s. found (withValue value m v) s))) there, ap (λ (y : Found Elements). valueIn (after (allOf y []) (λ v s. found (withValue value m v) s))) there);
     }
 
 -- ---- the verdict

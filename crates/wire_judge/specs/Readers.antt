@@ -10,6 +10,7 @@ use Rattle.octets.specs.Numbers.{be}
 use Rattle.rules.specs.declared.Verdict.the-variants.{Accepted, Refused}
 use Rattle.formats.specs.Format.{Found, nothing, found, allOf}
 use Rattle.formats.specs.Summary.{summed, gathered}
+use Rattle.aper.specs.Elements.{reject, criticalities}
 use Rattle.wire.specs.Frame.{Frame, outer}
 use Rattle.wire.specs.CancelRequest.{element, value}
 use Rattle.wire.specs.CancelRefusals.{isCancel, messageVerdict}
@@ -63,8 +64,8 @@ inTurn s id =
 -- an unknown one is skipped, or counts as marked reject, or has no criticality
 unfoldable pub pastOf : Seen → (criticality end : ℕ) → Turn
 pastOf s c to =
-    cond (ltb c 3)
-    (Next (record { rejects = s .rejects || eqb c 0; lacks = s .lacks; ordered = s .ordered; last = s .last; identified = s .identified; counted = s .counted; transaction = s .transaction; requested = s .requested; all = s .all; noted = s .noted; identifier = s .identifier; serial = s .serial; start = s .start; end = s .end }) to)
+    cond (ltb c criticalities)
+    (Next (record { rejects = s .rejects || eqb c reject; lacks = s .lacks; ordered = s .ordered; last = s .last; identified = s .identified; counted = s .counted; transaction = s .transaction; requested = s .requested; all = s .all; noted = s .noted; identifier = s .identifier; serial = s .serial; start = s .start; end = s .end }) to)
     NoTurn
 
 -- what it tells, and where it lies
