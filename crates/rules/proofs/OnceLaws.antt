@@ -8,7 +8,7 @@ use lib.ListN.{getD}
 use Rattle.rules.specs.Refusals.{numberOf, writingNumber, writingLength}
 use Rattle.rules.specs.Applied.{Filled, ReadOutcome, Outcome, filledBy, readBy, outcomeBy}
 use Rattle.rules.specs.declared.Refusal.{Refusal}
-use Rattle.rules.specs.declared.Refusal.the-variants.{TableMark, TableWrong, RecordMark, RecordLength, RecordFields, RecordLimits, CancelsNothing, ShortBuffer, BadHeads, ListDamaged, TooManySegments, NoSuchSegment, BadEncoding, OtherMessage, UnknownElement, ElementsWrong}
+use Rattle.rules.specs.declared.Refusal.the-variants.{TableMark, TableWrong, RecordMark, RecordLength, RecordFields, RecordLimits, CancelsNothing, ShortBuffer, BadHeads, ListDamaged, TooManySegments, NoSuchSegment, BadEncoding, OtherMessage, UnknownElement, ElementsWrong, AnswerWrong}
 use Rattle.rules.specs.declared.Writing.{Writing}
 use Rattle.rules.specs.declared.Writing.the-variants.{Written, Unwritten}
 use Rattle.rules.specs.declared.Reading.{Reading}
@@ -18,7 +18,7 @@ use Rattle.rules.proofs.OutcomeLaws.{number-positive}
 -- the refusal with a number; none has 0
 numbered : ℕ → Refusal
 numbered n =
-    getD (TableMark ∷ TableMark ∷ TableWrong ∷ RecordMark ∷ RecordLength ∷ RecordFields ∷ RecordLimits ∷ CancelsNothing ∷ ShortBuffer ∷ BadHeads ∷ ListDamaged ∷ TooManySegments ∷ NoSuchSegment ∷ BadEncoding ∷ OtherMessage ∷ UnknownElement ∷ ElementsWrong ∷ []) n TableMark
+    getD (TableMark ∷ TableMark ∷ TableWrong ∷ RecordMark ∷ RecordLength ∷ RecordFields ∷ RecordLimits ∷ CancelsNothing ∷ ShortBuffer ∷ BadHeads ∷ ListDamaged ∷ TooManySegments ∷ NoSuchSegment ∷ BadEncoding ∷ OtherMessage ∷ UnknownElement ∷ ElementsWrong ∷ AnswerWrong ∷ []) n TableMark
 
 numbered-number : (x : Refusal) → numbered (numberOf x) ≡ x
 unfolding numbered
@@ -38,6 +38,7 @@ numbered-number BadEncoding = refl
 numbered-number OtherMessage = refl
 numbered-number UnknownElement = refl
 numbered-number ElementsWrong = refl
+numbered-number AnswerWrong = refl
 
 pub number-injective : (x y : Refusal) → numberOf x ≡ numberOf y → x ≡ y
 number-injective x y e = sym (numbered-number x) ∙ ap numbered e ∙ numbered-number y

@@ -11,7 +11,7 @@ use Rattle.rules.specs.Refusals.{numberOf, recordVerdict, writeVerdict, 
 use Rattle.rules.specs.Applied.{fill, built, conversion, written, noRequest, reading, readOf, outcome, applied}
 use Rattle.rules.specs.declared.Request.{Request}
 use Rattle.rules.specs.declared.Refusal.{Refusal}
-use Rattle.rules.specs.declared.Refusal.the-variants.{TableMark, TableWrong, RecordMark, RecordLength, RecordFields, RecordLimits, CancelsNothing, ShortBuffer, BadHeads, ListDamaged, TooManySegments, NoSuchSegment, BadEncoding, OtherMessage, UnknownElement, ElementsWrong}
+use Rattle.rules.specs.declared.Refusal.the-variants.{TableMark, TableWrong, RecordMark, RecordLength, RecordFields, RecordLimits, CancelsNothing, ShortBuffer, BadHeads, ListDamaged, TooManySegments, NoSuchSegment, BadEncoding, OtherMessage, UnknownElement, ElementsWrong, AnswerWrong}
 use Rattle.rules.specs.declared.Verdict.{Verdict}
 use Rattle.rules.specs.declared.Verdict.the-variants.{Accepted, Refused}
 
@@ -32,6 +32,7 @@ number-positive BadEncoding = omega arith
 number-positive OtherMessage = omega arith
 number-positive UnknownElement = omega arith
 number-positive ElementsWrong = omega arith
+number-positive AnswerWrong = omega arith
 
 -- ---- a buffer that is filled
 

@@ -14,13 +14,13 @@ use Rattle.rules.specs.Answer.{roomFor}
 use Rattle.rules.specs.declared.Seconds.{Seconds}
 use Rattle.rules.specs.declared.Request.{Request}
 use Rattle.rules.specs.declared.Refusal.{Refusal}
-use Rattle.rules.specs.declared.Refusal.the-variants.{TableMark, TableWrong, RecordMark, RecordLength, RecordFields, RecordLimits, CancelsNothing, ShortBuffer, BadHeads, ListDamaged, TooManySegments, NoSuchSegment, BadEncoding, OtherMessage, UnknownElement, ElementsWrong}
+use Rattle.rules.specs.declared.Refusal.the-variants.{TableMark, TableWrong, RecordMark, RecordLength, RecordFields, RecordLimits, CancelsNothing, ShortBuffer, BadHeads, ListDamaged, TooManySegments, NoSuchSegment, BadEncoding, OtherMessage, UnknownElement, ElementsWrong, AnswerWrong}
 use Rattle.rules.specs.declared.Verdict.{Verdict}
 use Rattle.rules.specs.declared.Verdict.the-variants.{Accepted, Refused}
 use Rattle.rules.specs.declared.Writing.{Writing}
 use Rattle.rules.specs.declared.Writing.the-variants.{Written, Unwritten}
 
--- ---- numbers: 10 to 12 are those of a list of segments (crate segments), 13 to 16 those of a message on the wire (crate wire)
+-- ---- numbers: 10 to 12 are those of a list of segments (crate segments), 13 to 16 those of a message on the wire (crate wire), 17 that of an answer to be sent there
 
 abbrev pub numberOf : Refusal → ℕ
 numberOf TableMark = 1
@@ -39,6 +39,7 @@ numberOf BadEncoding = 13
 numberOf OtherMessage = 14
 numberOf UnknownElement = 15
 numberOf ElementsWrong = 16
+numberOf AnswerWrong = 17
 
 abbrev pub verdictNumber : Verdict → ℕ
 verdictNumber Accepted = 0

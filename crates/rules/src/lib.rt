@@ -76,7 +76,7 @@ impl Request {
     }
 }
 
-// The numbered refusals, in the order of their numbers: document 01's nine, then document 02's: those of a list of segments, and those of a message on the wire.
+// The numbered refusals, in the order of their numbers: document 01's nine, then document 02's: those of a list of segments, and those of a message and of an answer on the wire.
 pub enum Refusal {
     TableMark,
     TableWrong,
@@ -94,6 +94,7 @@ pub enum Refusal {
     OtherMessage,
     UnknownElement,
     ElementsWrong,
+    AnswerWrong,
 }
 
 impl Refusal {
@@ -117,6 +118,7 @@ impl Refusal {
             Refusal::OtherMessage => 14,
             Refusal::UnknownElement => 15,
             Refusal::ElementsWrong => 16,
+            Refusal::AnswerWrong => 17,
         }
     }
 }
