@@ -1,11 +1,11 @@
--- A row's bytes in three stores, and its numbers in three reads.
--- Stores one behind the other are one run; each number is the field that stands where it is read.
+-- A row's bytes in three stores, its numbers in three reads, and the rows one after the other.
+-- Stores one behind the other are one run; each number is the field that stands where it is read; a row is the next piece of the bytes behind the head.
 use mathlib.Core.Path.{_≡_, refl, _∙_}
-use mathlib.Core.List.{List, _++_, append-assoc, append-nil}
-use Prim.Native.Nat.{ℕ, _+_, _≤_}
-use native.Mathlib.Nat.{add-zero}
+use mathlib.Core.List.{List, [], _∷_, _++_, append-assoc, append-nil}
+use Prim.Native.Nat.{ℕ, _+_, _-_, _*_, _<_, _≤_}
+use native.Mathlib.Nat.{add-zero, sub-zero}
 use native.Mathlib.Omega.{arith}
-use lib.ListN.{length, getD, length-append}
+use lib.ListN.{length, getD, drop, length-append, length-map}
 use lib.Seq.{sets}
 use Rattle.octets.specs.Runs.{gets}
 use Rattle.octets.specs.Numbers.{be, toBe}
@@ -13,9 +13,11 @@ use Rattle.octets.specs.Fields.{offset, bytesOf, fieldOf}
 use Rattle.octets.proofs.RunsLaws.{sets-run, gets-gets, length-gets}
 use Rattle.octets.proofs.NumbersLaws.{length-toBe}
 use Rattle.octets.proofs.FieldsLaws.{field-at}
-use Rattle.rules.specs.Layout.{current, rowFields, rowSize}
+use Rattle.octets.proofs.PiecesLaws.{pieces-next, pieces-none, length-pieces}
+use Rattle.rules.specs.Layout.{current, rowFields, answerSize, rowSize}
 use Rattle.rules.specs.Reply.{Row}
 use Rattle.rules.specs.Answer.{rowOf, rowBytes}
+use Rattle.answer.specs.Rows.{rowAt, rowsIn, rowsFrom}
 
 pub row-stored : (l : List ℕ) (at : ℕ) (w : Row) (a b d : List ℕ)
     → a ≡ sets l at (toBe 8 (w .identity)) → b ≡ sets a (at + 8) (toBe 2 (w .count)) → d ≡ sets b (at + 10) (toBe 4 (w .content))
@@ -52,3 +54,23 @@ row-read l from i k n a b d =
       b,
       d,
     )
+
+-- ---- one after the other
+
+module _ (answer : List ℕ) (many : ℕ) where
+  pub length-rows : length (rowsIn answer many) ≡ many
+  length-rows = rw (length-map, length-pieces)
+
+  pub rows-first : rowsFrom answer many 0 ≡ rowsIn answer many
+  rows-first = rw sub-zero
+
+  pub rows-none : (k : ℕ) → many ≤ k → rowsFrom answer many k ≡ []
+  rows-none k h = rw (pieces-none (rowSize current) (many - k) (drop (answerSize current + rowSize current * k) answer) (omega (arith, h)))
+
+  pub next-row : (k : ℕ) → answerSize current + rowSize current * many ≤ length answer → k < many → rowsFrom answer many k ≡ rowAt answer k ∷ rowsFrom answer many (k + 1)
+  unfolding rowAt
+  next-row k fits h =
+      let from : ℕ = answerSize current + rowSize current * k in
+      let one : many - k - 1 ≡ many - (k + 1) = omega arith in
+      let next : from + rowSize current ≡ answerSize current + rowSize current * (k + 1) = omega arith in
+      rw (pieces-next (rowSize current) (many - k) answer from (omega (arith, h)) (omega (arith, h, fits)), one, next)

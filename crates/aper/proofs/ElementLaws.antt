@@ -1,4 +1,4 @@
--- The formats of elements keep the laws of a format.
+-- The formats of elements keep the laws of a format; how many bytes a length has, and what an open type holds.
 use mathlib.Core.Path.{_≡_, refl, sym, ap}
 use mathlib.Core.Bool.{Bool, true, false, _&&_}
 use mathlib.Core.List.{List, [], _∷_, _++_}
@@ -9,7 +9,7 @@ use lib.ListN.{length}
 use borrow.Author.Tests.{lt-ltb, le-ltb, le-leb, ltb-true, ltb-false, leb-true, eqb-true}
 use Rattle.octets.specs.Runs.{Bytes}
 use Rattle.formats.specs.Format.{Found, nothing, found, after, allOf, Format, number, run, opaque, behind, only, as-if, times, inside}
-use Rattle.aper.specs.Elements.{lengthBytes, longIn, lengthIn, determinant, openType, Element, twoBits, head, under, holding, plain, proper, elementOf, elementsOf, fromOne, extension, Extensions, mostExtensions, container, presence, optional, given}
+use Rattle.aper.specs.Elements.{shortLength, longLength, lengthBytes, longIn, lengthIn, determinant, openType, Element, twoBits, head, under, holding, plain, proper, elementOf, elementsOf, fromOne, extension, Extensions, mostExtensions, container, presence, optional, given}
 use Rattle.rules.proofs.TestLaws.{both, by-test}
 use Rattle.formats.proofs.FormatLaws.{Good, Lawful, Alone, either-good, number-lawful, run-lawful, opaque-alone, pair-lawful, behind-lawful, only-lawful, as-if-lawful, times-lawful, inside-lawful}
 
@@ -79,6 +79,19 @@ pub determinant-lawful : Lawful determinant
 unfolding determinant
 determinant-lawful = record { bytes = length-bytes; reads = length-reads; back = length-back }
 
+module _ (n : ℕ) where
+  pub short-size : n < shortLength → length (lengthBytes n) ≡ 1
+  unfolding lengthBytes
+  short-size h = rw (lt-ltb n shortLength h)
+
+  pub long-size : shortLength ≤ n → length (lengthBytes n) ≡ 2
+  unfolding lengthBytes
+  long-size h = rw (le-ltb n shortLength h)
+
+  pub size-most : length (lengthBytes n) ≤ 2
+  unfolding lengthBytes
+  size-most = by-test (ltb n shortLength) (λ t. rw t (omega arith)) (λ t. rw t (omega arith))
+
 -- ---- an open type
 
 run-long : (n : ℕ) (s : List ℕ) → run n .fits s → length s ≡ n
@@ -88,6 +101,16 @@ run-long n s h = h .0
 pub openType-held : (s : List ℕ) → openType .fits s → Bytes s
 unfolding openType only behind run
 openType-held s h = h .0 .1 .1
+
+-- bytes that an open type holds
+pub record Held (s : List ℕ) : Type 0 where
+  pub bytes : Bytes s
+  pub some : 0 < length s
+  pub few : length s < longLength
+
+pub openType-fits : (s : List ℕ) → Held s → openType .fits s
+unfolding openType only behind determinant run
+openType-fits s h = ((h .few, (refl, h .bytes)), lt-ltb 0 (length s) (h .some))
 
 pub openType-lawful : Lawful openType
 unfolding openType

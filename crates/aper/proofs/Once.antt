@@ -1,7 +1,6 @@
 -- One outcome only: what a public function of this crate returns, its contract settles.
 -- Each promise is an equation with what a format finds; an index within the bytes is settled by the bytes behind it.
 use mathlib.Core.Path.{_≡_, refl, sym, ap, _∙_}
-use mathlib.Core.Bool.{Bool}
 use mathlib.Core.List.{List}
 use Prim.Native.Nat.{ℕ, _-_, _≤_}
 use native.Mathlib.Omega.{arith}

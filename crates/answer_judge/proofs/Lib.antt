@@ -1,0 +1,10 @@
+pub mod RowsLeftLaws
+pub mod AnswerableLaws
+pub mod OnePassLaws
+pub mod NoneRefused
+pub mod GivenLaws
+pub mod CellsGivenLaws
+pub mod AskedLaws
+pub mod AllGiven
+pub mod ExactAnswersHold
+pub mod Once

@@ -1,0 +1,2 @@
+pub mod Answerable
+pub mod OnePass
