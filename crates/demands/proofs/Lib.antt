@@ -2,6 +2,7 @@ pub mod ContractsHold
 pub mod NumberLaws
 pub mod StageLaws
 pub mod MessageLaws
+pub mod ReadAsLaws
 pub mod Demand1Holds
 pub mod Demand2Once
 pub mod Demand2Cells

@@ -10,8 +10,11 @@ use Rattle.rules.specs.declared.Verdict.{Verdict}
 use Rattle.rules.specs.declared.Verdict.the-variants.{Accepted, Refused}
 use Rattle.rules.proofs.VerdictLaws.{then-end, first-append}
 use Rattle.rules.proofs.OutcomeLaws.{fill-accepted, fill-refused}
-use Rattle.wire.specs.CancelRefusals.{messageTests, messageVerdict}
-use Rattle.wire.specs.CancelRead.{cancelRequest, saidIn, recordRoom, cancelVerdict, MessageOutcome, transactionBy, recordOf, cancelRead}
+use Rattle.wire.specs.MessageRefusals.{messageTests, messageVerdict}
+use Rattle.wire.specs.MessageSaid.{saidIn}
+use Rattle.wire.specs.MessageOutcome.{MessageOutcome, transactionBy}
+use Rattle.wire.specs.CancelRead.{cancelRequest, recordRoom, cancelVerdict, recordOf, cancelRead}
+use Rattle.wire.specs.declared.Message.the-variants.{CancelRequest}
 use Rattle.demands.proofs.NumberLaws.{fill-number}
 
 -- ---- field by field
@@ -33,12 +36,12 @@ buffer-taken e = ap (λ (o : MessageOutcome). o .buffer) e
 -- 13 to 16, then 7, then 8
 pub cancel-chain : (message : List ℕ) (room : ℕ)
     → cancelVerdict message room
-    ≡ messageVerdict message then refuseUnless (cancelsSome (cancelRequest (saidIn message))) CancelsNothing then refuseUnless (fitsIn (recordRoom (saidIn message)) room) ShortBuffer
+    ≡ messageVerdict CancelRequest message then refuseUnless (cancelsSome (cancelRequest (saidIn CancelRequest message))) CancelsNothing then refuseUnless (fitsIn (recordRoom (saidIn CancelRequest message)) room) ShortBuffer
 unfolding cancelVerdict messageVerdict
 cancel-chain message room =
-    let some = cancelsSome (cancelRequest (saidIn message)) in
-    let fits = fitsIn (recordRoom (saidIn message)) room in
-    rw (first-append (messageTests message) (test some CancelsNothing ∷ test fits ShortBuffer ∷ []), then-end (refuseUnless fits ShortBuffer))
+    let some = cancelsSome (cancelRequest (saidIn CancelRequest message)) in
+    let fits = fitsIn (recordRoom (saidIn CancelRequest message)) room in
+    rw (first-append (messageTests CancelRequest message) (test some CancelsNothing ∷ test fits ShortBuffer ∷ []), then-end (refuseUnless fits ShortBuffer))
 
 transaction-refused : (v : Verdict) (t : ℕ) → (verdictNumber v ≡ 0 → ⊥) → transactionBy v t ≡ 0
 transaction-refused Accepted t h = absurd (h refl)
@@ -50,15 +53,15 @@ module _ (message buffer : List ℕ) where
 
   pub message-number : cancelRead message buffer .number ≡ verdictNumber verdict
   unfolding cancelRead
-  message-number = fill-number verdict (recordOf (saidIn message)) buffer
+  message-number = fill-number verdict (recordOf (saidIn CancelRequest message)) buffer
 
   pub message-accepted : cancelRead message buffer .number ≡ 0 → verdict ≡ Accepted
   unfolding cancelRead
-  message-accepted e = fill-accepted verdict (recordOf (saidIn message)) buffer e
+  message-accepted e = fill-accepted verdict (recordOf (saidIn CancelRequest message)) buffer e
 
   pub message-refused : (cancelRead message buffer .number ≡ 0 → ⊥)
       → (cancelRead message buffer .transaction ≡ 0) × (cancelRead message buffer .length ≡ 0) × (cancelRead message buffer .buffer ≡ buffer)
   unfolding cancelRead
   message-refused h =
-      let f = fill-refused verdict (recordOf (saidIn message)) buffer h in
-      (transaction-refused verdict (saidIn message .transaction) (λ z. h (message-number ∙ z)), f .0, f .1)
+      let f = fill-refused verdict (recordOf (saidIn CancelRequest message)) buffer h in
+      (transaction-refused verdict (saidIn CancelRequest message .transaction) (λ z. h (message-number ∙ z)), f .0, f .1)

@@ -19,7 +19,7 @@ use Rattle.rules.specs.declared.Verdict.the-variants.{Accepted, Refused}
 use Rattle.rules.proofs.TestLaws.{both}
 use Rattle.rules.proofs.OutcomeLaws.{number-positive}
 use Rattle.segments.specs.Segments.{mostSegments, lengthsFit, segmentsOf, wholeList, segmentVerdict}
-use Rattle.wire.specs.CancelRefusals.{messageTests, messageVerdict}
+use Rattle.wire.specs.MessageRefusals.{messageTests, messageVerdict}
 use Rattle.demands.specs.Demand1.{Stage, Given, Numbered}
 
 -- ---- the numbers of a verdict

@@ -1,12 +1,12 @@
 -- What 5/13 claims of messages holds of every call under the promise.
--- A call that returned 0 was accepted, so that it left what a filled buffer is left with; the rest is that of the definitions (wire, CancelPromisesHold).
+-- A call that returned 0 was accepted, so that it left what a filled buffer is left with; the rest is that of the definitions (wire, MessagePromisesHold and CancelPromisesHold).
 use mathlib.Core.Path.{_≡_, refl, sym, ap, _∙_}
 use mathlib.Core.Bool.{true, false, false≢true}
 use mathlib.Core.List.{List, [], _∷_, _++_, map, flatMap}
 use Prim.Native.Nat.{ℕ, _≤_}
 use native.Mathlib.Omega.{arith}
 use borrow.Author.Tests.{leb-true}
-use lib.ListN.{length, take, drop}
+use lib.ListN.{length, take, drop, length-map}
 use lib.Seq.{sets, drop-at}
 use Rattle.octets.specs.Runs.{Bytes}
 use Rattle.octets.proofs.RunsLaws.{sets-front, take-sets-front}
@@ -17,66 +17,38 @@ use Rattle.rules.specs.Applied.{Filled, fill, readOf}
 use Rattle.rules.specs.declared.Verdict.the-variants.{Accepted}
 use Rattle.rules.proofs.TestLaws.{by-test}
 use Rattle.rules.proofs.RecordTrips.{length-recordBytes}
-use Rattle.formats.specs.Format.{Found, nothing, found}
 use Rattle.aper.specs.Elements.{Element}
-use Rattle.wire.specs.Frame.{Frame}
 use Rattle.wire.specs.Cells.{Entry, listed, foreign}
-use Rattle.wire.specs.CancelRequest.{Contents, transaction, requested, cells, cancelAll, notification, other, Elements, request}
-use Rattle.wire.specs.CancelRefusals.{whole, wellEncoded, valueIn, messageElements, isThis, isForeign, knownContents}
-use Rattle.wire.specs.CancelRead.{said, cancelRequest, saidIn, recordRoom, cancelVerdict, transactionBy, withTransaction, recordOf, cancelRead}
-use Rattle.wire.specs.CancelPromises.{bareEntry, bareElement, skipped, bare}
+use Rattle.wire.specs.MessageTree.{Contents, transaction, requested, cells, cancelAll, notification, other, Elements}
+use Rattle.wire.specs.MessageRefusals.{isForeign, knownContents}
+use Rattle.wire.specs.MessageSaid.{saidIn}
+use Rattle.wire.specs.MessageOutcome.{transactionBy, withTransaction}
+use Rattle.wire.specs.CancelRead.{named, cancelRequest, recordRoom, cancelVerdict, recordOf, cancelRead}
+use Rattle.wire.specs.MessagePromises.{bareEntry, bareElement, skipped, bare}
+use Rattle.wire.specs.declared.Message.the-variants.{CancelRequest}
 use Rattle.wire.proofs.SoundLaws.{message-sound}
 use Rattle.wire.proofs.CancelRecordLaws.{request-fits}
-use Rattle.wire.proofs.CancelPromisesHold.{one-reading, skipping, refusing, legal-record}
+use Rattle.wire.proofs.MessagePromisesHold.{one-reading, skipping}
+use Rattle.wire.proofs.CancelPromisesHold.{same-record, refusing, legal-record}
 use Rattle.pws.specs.Surface.{taken}
 use Rattle.pws.specs.declared.PwsMessage.{PwsMessage}
 use Rattle.pws.specs.Promises.{ReadCancelPromise}
-use Rattle.demands.specs.WireCancel.{ReadAs, CancelTaken, markedAs, WireCancel}
+use Rattle.demands.specs.WireCancel.{CancelTaken, markedAs, WireCancel}
+use Rattle.demands.proofs.ReadAsLaws.{parsed, read-as}
 use Rattle.demands.proofs.MessageLaws.{number-taken, transaction-taken, length-taken, buffer-taken, message-number, message-accepted}
-
--- ---- one reading
-
--- what is read with nothing behind it
-record Whole (x : Found (Frame Elements)) : Type 0 where
-  tree : Frame Elements
-  is : x ≡ found tree []
-
-whole-found : (x : Found (Frame Elements)) → whole x ≡ true → Whole x
-whole-found nothing e = absurd (false≢true e)
-whole-found (found m []) e = record { tree = m; is = refl }
-whole-found (found m (b ∷ bs)) e = absurd (false≢true e)
-
-parsed : (message : List ℕ) → wellEncoded message ≡ true → isThis message ≡ true → Whole (request .parse message)
-unfolding wellEncoded
-parsed message e t = whole-found (request .parse message) (rw t at e)
-
-abbrev treeIn : Frame Elements → Found (Frame Elements) → Frame Elements
-treeIn m nothing = m
-treeIn m (found n rest) = n
-
-read-as : (message : List ℕ) → Bytes message → (tree : Frame Elements) → request .parse message ≡ found tree [] → ReadAs message tree
-unfolding messageElements
-read-as message bytes tree e =
-    let back = one-reading .back message bytes tree e in
-    record {
-      fits = back .0;
-      encoded = back .1;
-      alone = λ other f same. ap (treeIn tree) (sym (one-reading .there other f) ∙ ap (request .parse) same ∙ e);
-      says = ap (λ x. said (valueIn x)) e;
-    }
 
 -- ---- the record, and the transaction identifier
 
 module _ (message buffer : List ℕ) where
-  of-record : Bytes message → recordRoom (saidIn message) ≤ length buffer
-      → (readOf (recordOf (saidIn message)) ≡ record { number = 0; request = cancelRequest (saidIn message); items = length (saidIn message .cells) }) × (itemsOf (recordOf (saidIn message)) ≡ saidIn message .cells)
-      → (m : PwsMessage) (buffer′ : List ℕ) → m .transaction ≡ saidIn message .transaction → m .length ≡ length (recordOf (saidIn message)) → buffer′ ≡ sets buffer 0 (recordOf (saidIn message))
+  of-record : Bytes message → recordRoom (saidIn CancelRequest message) ≤ length buffer
+      → (readOf (recordOf (saidIn CancelRequest message)) ≡ record { number = 0; request = cancelRequest (saidIn CancelRequest message); items = length (named (saidIn CancelRequest message)) }) × (itemsOf (recordOf (saidIn CancelRequest message)) ≡ named (saidIn CancelRequest message))
+      → (m : PwsMessage) (buffer′ : List ℕ) → m .transaction ≡ saidIn CancelRequest message .transaction → m .length ≡ length (recordOf (saidIn CancelRequest message)) → buffer′ ≡ sets buffer 0 (recordOf (saidIn CancelRequest message))
       → CancelTaken message buffer m buffer′
   unfolding recordOf
   of-record bytes room back m buffer′ t n w =
-      let c = saidIn message in
-      let sound = message-sound message bytes in
-      let long : length (recordOf c) ≡ recordRoom c = length-recordBytes (cancelRequest c) (c .cells) (request-fits c sound) (sound .few) in
+      let c = saidIn CancelRequest message in
+      let sound = message-sound CancelRequest message bytes in
+      let long : length (recordOf c) ≡ recordRoom c = length-recordBytes (cancelRequest c) (named c) (request-fits c sound) (omega (arith, length-map (c .cells) (λ w. w .identity), sound .few)) in
       let fits : length (recordOf c) ≤ length buffer = omega (arith, room) in
       let whole : take (m .length) buffer′ ≡ recordOf c = rw (n, w) (take-sets-front buffer (recordOf c) fits) in
       record {
@@ -96,7 +68,7 @@ passed message buffer m buffer′ p z = message-accepted message buffer (sym (nu
 taken-whole : (message buffer : List ℕ) → Bytes message → (m : PwsMessage) (buffer′ : List ℕ) → ReadCancelPromise message buffer m buffer′ → m .number ≡ 0 → CancelTaken message buffer m buffer′
 unfolding cancelRead fill
 taken-whole message buffer bytes m buffer′ p z =
-    let c = saidIn message in
+    let c = saidIn CancelRequest message in
     let v = passed message buffer m buffer′ p z in
     let held = refusing .exact message (length buffer) .accepted v in
     let w : taken m buffer′ ≡ withTransaction (fill Accepted (recordOf c) buffer) (c .transaction) =
@@ -140,24 +112,24 @@ entries-instead (x ∷ es) fs e c h = rw (entries-instead es fs e c h)
 pub wire-cancel-holds : WireCancel
 wire-cancel-holds =
     record {
-      one-reading = one-reading;
+      one-reading = one-reading CancelRequest;
       read-as = λ message buffer bytes m buffer′ p z.
           let held = refusing .exact message (length buffer) .accepted (passed message buffer m buffer′ p z) in
-          let w = parsed message (held .0) (held .1 .0) in
-          (w .tree, read-as message bytes (w .tree) (w .is));
+          let w = parsed CancelRequest message (held .0) (held .1 .0) in
+          (w .tree, read-as CancelRequest message bytes (w .tree) (w .is));
       taken = taken-whole;
       as-written = λ message buffer bytes e m buffer′ p d buffer″ q.
           let w = p ∙ legal-record .writer message buffer bytes e in
           (number-taken w ∙ sym (ap (λ (f : Filled). f .number) q), length-taken w ∙ sym (ap (λ (f : Filled). f .length) q), buffer-taken w ∙ sym (ap (λ (f : Filled). f .buffer) q));
       same-taken = λ first second buffer tree other f s this also same m buffer′ p n buffer″ q.
-          let w = p ∙ skipping .same first second buffer tree other f s this also same ∙ sym q in
+          let w = p ∙ same-record first second buffer tree other f s this also same ∙ sym q in
           record {
             same-number = number-taken w;
             same-transaction = transaction-taken w;
             same-length = length-taken w;
             same-bytes = buffer-taken w;
           };
-      skipping = skipping;
+      skipping = skipping CancelRequest;
       criticality = λ es fs e c h.
           let k = unread (e .id) (e .criticality) c (e .contents) h in
           bare-instead (markedAs c e) e (k .stays-so) (k .stays) (k .same) es fs;

@@ -17,8 +17,9 @@ use Rattle.rules.specs.declared.Refusal.the-variants.{RecordLength, CancelsNoth
 use Rattle.rules.specs.declared.Verdict.{Verdict}
 use Rattle.rules.specs.declared.Verdict.the-variants.{Accepted, Refused}
 use Rattle.segments.specs.Segments.{mostSegments, listBytes, cutAt, lengthsFit, segmentVerdict, packVerdict}
-use Rattle.wire.specs.CancelRefusals.{messageVerdict}
-use Rattle.wire.specs.CancelRead.{cancelRequest, saidIn, recordRoom, cancelVerdict}
+use Rattle.wire.specs.MessageRefusals.{messageVerdict}
+use Rattle.wire.specs.MessageSaid.{saidIn}
+use Rattle.wire.specs.CancelRead.{cancelRequest, recordRoom, cancelVerdict}
 use Rattle.pws.specs.Promises.{BuildPromise, ConvertPromise, ApplyPromise, ReadPromise, WritePromise, ItemPromise, SegmentPromise, PackPromise, ReadCancelPromise}
 use Rattle.pws.specs.declared.PwsDone.{PwsDone}
 use Rattle.pws.specs.declared.PwsReading.{PwsReading}

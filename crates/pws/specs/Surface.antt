@@ -6,8 +6,8 @@ use Rattle.rules.specs.Applied.{Filled, ReadOutcome, Outcome}
 use Rattle.rules.specs.declared.Writing.{Writing}
 use Rattle.segments.specs.Segments.{Lies}
 use Rattle.wire.specs.CancelRead.{MessageOutcome}
-use Rattle.wire_cancel.specs.declared.Taking.{Taking}
-use Rattle.wire_cancel.specs.declared.Taking.the-variants.{Taken, Untaken}
+use Rattle.wire.specs.declared.Taking.{Taking}
+use Rattle.wire.specs.declared.Taking.the-variants.{Taken, Untaken}
 use Rattle.pws.specs.declared.PwsDone.{PwsDone}
 use Rattle.pws.specs.declared.PwsReading.{PwsReading}
 use Rattle.pws.specs.declared.PwsPart.{PwsPart}

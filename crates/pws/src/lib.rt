@@ -9,7 +9,7 @@ use rules::Request;
 use rules::Seconds;
 use rules::Writing;
 use segments::read::Part;
-use wire_cancel::Taking;
+use wire::Taking;
 
 // 0 and the length written, or a refusal's number and 0.
 #[repr(C)]

@@ -2,7 +2,7 @@
 use mathlib.Core.Path.{refl}
 use mathlib.Core.List.{flatMap}
 use Rattle.octets.specs.Numbers.{be, toBe}
-use Rattle.rules.specs.Lists.{any, those, oneOf, above}
+use Rattle.rules.specs.Lists.{any, every, those, oneOf, above}
 use Rattle.octets.specs.Fields.{bytesOf}
 use Rattle.rules.specs.Record.{cancelsNothing, requestNumbers, recordBytes}
 use Rattle.rules.specs.Applied.{fill}
@@ -12,14 +12,16 @@ use Rattle.formats.specs.Summary.{gathered}
 use Rattle.aper.specs.Elements.{lengthBytes, longIn, lengthIn, determinant, openType, twoBits, head, under, holding, proper, elementOf, elementsOf, fromOne, container, optional, given}
 use Rattle.wire.specs.Frame.{frameCriticality, frameUnder, frame}
 use Rattle.wire.specs.Cells.{itemHead, itemUnder, item, entry, list}
-use Rattle.wire.specs.CancelRequest.{noteUnder, note, known, contentsBy, contents, value}
-use Rattle.wire.specs.CancelRefusals.{isThis, wellEncoded, messageElements, knownIds, inOrder, complete, messageVerdict}
-use Rattle.wire.specs.CancelRead.{nothingSaid, identities, saidBy, said, cancelRequest, cancelVerdict, recordOf, cancelRead}
-use Rattle.wire.specs.CancelPromises.{bare}
+use Rattle.wire.specs.Messages.{known}
+use Rattle.wire.specs.MessageTree.{noteUnder, note, contentsBy, contents, value}
+use Rattle.wire.specs.MessageRefusals.{isThis, wellEncoded, messageElements, knownIds, inOrder, complete, messageVerdict}
+use Rattle.wire.specs.MessageSaid.{nothingSaid, rowsIn, saidBy, said}
+use Rattle.wire.specs.CancelRead.{cancelRequest, cancelVerdict, recordOf, cancelRead}
+use Rattle.wire.specs.MessagePromises.{bare}
 use Rattle.wire.specs.CancelSamples.{again, CancelSamples}
 
 pub samples-hold : CancelSamples
-unfolding flatMap be toBe any those oneOf above cancelsNothing number run opaque pair behind only as-if several times inside width joined cut padded bits gathered lengthBytes longIn lengthIn determinant openType twoBits head under holding proper elementOf elementsOf fromOne container optional given frameCriticality frameUnder frame itemHead itemUnder item entry list noteUnder note known contentsBy contents value isThis wellEncoded messageElements knownIds inOrder complete messageVerdict nothingSaid identities saidBy said cancelRequest cancelVerdict recordOf cancelRead bytesOf requestNumbers recordBytes fill bare again
+unfolding flatMap be toBe any those every oneOf above cancelsNothing number run opaque pair behind only as-if several times inside width joined cut padded bits gathered lengthBytes longIn lengthIn determinant openType twoBits head under holding proper elementOf elementsOf fromOne container optional given frameCriticality frameUnder frame itemHead itemUnder item entry list noteUnder note known contentsBy contents value isThis wellEncoded messageElements knownIds inOrder complete messageVerdict nothingSaid rowsIn saidBy said cancelRequest cancelVerdict recordOf cancelRead bytesOf requestNumbers recordBytes fill bare again
 samples-hold =
     record {
       minimal = (refl, refl, refl);

@@ -17,7 +17,9 @@ use Rattle.formats.specs.Bits.{Field, width, cut, padded, bits}
 use Rattle.formats.specs.Summary.{summed}
 use Rattle.formats.proofs.ReadLaws.{number-cut, number-found, bits-cut, bits-set, bits-found}
 use Rattle.wire.specs.Frame.{blankFields}
-use Rattle.wire.specs.CancelRequest.{theTransaction, theRequested, theIndicator, Contents, transaction, requested, cancelAll, transactionFields, contentsBy}
+use Rattle.wire.specs.Messages.{theTransaction, theRequested, theIndicator}
+use Rattle.wire.specs.MessageTree.{Contents, transaction, requested, cancelAll, transactionFields, contentsBy}
+use Rattle.wire.specs.declared.Message.the-variants.{CancelRequest}
 use Rattle.wire.specs.Readers.{kept, Tells}
 use Rattle.wire.specs.declared.Heard.the-variants.{Transaction, Requested, CancelAll, Bad}
 
@@ -82,27 +84,27 @@ blank-set n other =
     (λ t. rw t)
 
 module _ (l : List ℕ) where
-  pub indicator-length : (length l ≡ 1 → ⊥) → Tells (contentsBy theIndicator) l Bad
+  pub indicator-length : (length l ≡ 1 → ⊥) → Tells (contentsBy CancelRequest theIndicator) l Bad
   unfolding contentsBy as-if
   indicator-length other = sym (told (λ vs. cancelAll) (bits 1 blankFields .parse l) nothing (bits-not-all l 1 blankFields other))
 
   module _ (n : ℕ) (h : length l ≡ 1) (here : n ≡ be (gets l 0 1)) where
-    pub indicator-set : (n ≡ 0 → ⊥) → Tells (contentsBy theIndicator) l Bad
+    pub indicator-set : (n ≡ 0 → ⊥) → Tells (contentsBy CancelRequest theIndicator) l Bad
     unfolding contentsBy as-if
     indicator-set other = sym (told (λ vs. cancelAll) (bits 1 blankFields .parse l) nothing (bits-refused l 1 blankFields n h here (blank-set n other)))
 
-    pub indicator-there : n ≡ 0 → Tells (contentsBy theIndicator) l CancelAll
+    pub indicator-there : n ≡ 0 → Tells (contentsBy CancelRequest theIndicator) l CancelAll
     unfolding contentsBy as-if
     indicator-there e = sym (told (λ vs. cancelAll) (bits 1 blankFields .parse l) (found (cut blankFields n) []) (bits-all l 1 blankFields n h here (blank-padded n e)))
 
 -- ---- the number of broadcasts
 
 module _ (l : List ℕ) where
-  pub requested-length : (length l ≡ 2 → ⊥) → Tells (contentsBy theRequested) l Bad
+  pub requested-length : (length l ≡ 2 → ⊥) → Tells (contentsBy CancelRequest theRequested) l Bad
   unfolding contentsBy as-if
   requested-length other = sym (told requested (number 2 .parse l) nothing (number-not-all l 2 other))
 
-  pub requested-there : (n : ℕ) → length l ≡ 2 → n ≡ be (gets l 0 2) → Tells (contentsBy theRequested) l (Requested n)
+  pub requested-there : (n : ℕ) → length l ≡ 2 → n ≡ be (gets l 0 2) → Tells (contentsBy CancelRequest theRequested) l (Requested n)
   unfolding contentsBy as-if
   requested-there n h here = rw here (sym (told requested (number 2 .parse l) (found (be (gets l 0 2)) []) (number-all l 2 h)))
 
@@ -127,7 +129,7 @@ transaction-set n h =
     (λ t. rw t)
 
 module _ (l : List ℕ) where
-  pub transaction-length : (length l ≡ 2 → ⊥) → Tells (contentsBy theTransaction) l Bad
+  pub transaction-length : (length l ≡ 2 → ⊥) → Tells (contentsBy CancelRequest theTransaction) l Bad
   unfolding contentsBy as-if
   transaction-length other = sym (told (λ vs. transaction (getD vs 0 0)) (bits 2 transactionFields .parse l) nothing (bits-not-all l 2 transactionFields other))
 
@@ -135,13 +137,13 @@ module _ (l : List ℕ) where
     two : be (gets l 0 1) * 256 + be (gets l 1 1) ≡ be (gets l 0 2)
     two = be-run 1 1 l 0 1 refl
 
-    pub transaction-extended : (first ≡ 0 → ⊥) → Tells (contentsBy theTransaction) l Bad
+    pub transaction-extended : (first ≡ 0 → ⊥) → Tells (contentsBy CancelRequest theTransaction) l Bad
     unfolding contentsBy as-if
     transaction-extended other =
         let large : 256 ≤ be (gets l 0 2) = omega (arith, other, two) in
         sym (told (λ vs. transaction (getD vs 0 0)) (bits 2 transactionFields .parse l) nothing (bits-refused l 2 transactionFields (be (gets l 0 2)) h refl (transaction-set (be (gets l 0 2)) large)))
 
-    pub transaction-there : first ≡ 0 → (t : ℕ) → t ≡ be (gets l 1 1) → t < 256 → Tells (contentsBy theTransaction) l (Transaction t)
+    pub transaction-there : first ≡ 0 → (t : ℕ) → t ≡ be (gets l 1 1) → t < 256 → Tells (contentsBy CancelRequest theTransaction) l (Transaction t)
     unfolding contentsBy as-if
     transaction-there e t second small =
         let all : t ≡ be (gets l 0 2) = omega (arith, two) in

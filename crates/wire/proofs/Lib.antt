@@ -1,6 +1,6 @@
 pub mod FrameFormat
 pub mod CellsFormat
-pub mod RequestFormat
+pub mod MessageFormat
 pub mod CancelSamplesHold
 pub mod FixedLaws
 pub mod NoteLaws
@@ -13,6 +13,8 @@ pub mod HearLaws
 pub mod HeardLaws
 pub mod SkippingLaws
 pub mod SoundLaws
+pub mod MessagePromisesHold
+pub mod TakingLaws
 pub mod CancelRecordLaws
 pub mod CancelPromisesHold
 pub mod Once

@@ -1,99 +1,130 @@
--- The list of cells: where the walk over its entries starts, and what its end tells. The two marks that are gathered are those of the whole list.
+-- The list of cells: where the walk over its entries starts, and what its end tells. What is gathered is told of the whole list.
 use mathlib.Core.Path.{_≡_, refl, sym, ap, _∙_}
-use mathlib.Core.Bool.{Bool, false, _||_}
-use mathlib.Core.List.{List, [], _∷_}
+use mathlib.Core.Bool.{Bool, true, false, _&&_, _||_}
+use mathlib.Core.List.{List, [], _∷_, map}
 use Prim.Native.Nat.{ℕ, _+_, _<_, _≤_}
 use native.Mathlib.Omega.{arith}
 use lib.ListN.{length, drop, drop-of-length-le}
 use lib.Seq.{drop-cons}
-use borrow.Author.Tests.{lt-ltb, le-ltb}
+use borrow.Author.Tests.{lt-ltb, le-ltb, ltb-true, ltb-false, le-leb, lt-leb}
 use Rattle.octets.specs.Runs.{gets}
 use Rattle.octets.specs.Numbers.{be}
-use Rattle.rules.specs.Lists.{any}
-use Rattle.rules.proofs.TestLaws.{or-assoc, or-false}
+use lib.Dec.{ltb, leb}
+use Rattle.rules.specs.Lists.{any, above, ascending}
+use Rattle.rules.proofs.TestLaws.{or-assoc, or-false, and-assoc, and-with-true, by-test}
 use Rattle.formats.specs.Summary.{summed, gathered}
 use Rattle.formats.specs.Format.{Found, nothing, found, after, allOf, behind, only, as-if, times}
 use Rattle.formats.proofs.ReadLaws.{number-cut, number-found}
 use Rattle.formats.proofs.WalkLaws.{Walking}
 use Rattle.aper.specs.Elements.{Element, fromOne}
 use Rattle.wire.specs.Cells.{Entry, entryElement, list}
-use Rattle.wire.specs.CancelRequest.{theCells, cells, contentsBy}
-use Rattle.wire.specs.CancelRefusals.{rejectsEntry, foreignEntry}
-use Rattle.wire.specs.Readers.{kept, marksOf, EntryAt, Tells}
+use Rattle.wire.specs.Messages.{theCells}
+use Rattle.wire.specs.MessageTree.{cells, contentsBy}
+use Rattle.wire.specs.MessageRefusals.{rejectsEntry, foreignEntry}
+use Rattle.wire.specs.Readers.{kept, numberOfEntry, entryNumbers, marksOf, EntryAt, Tells}
+use Rattle.wire.specs.declared.Message.{Message}
 use Rattle.wire.specs.declared.Listed.the-variants.{Upto, NoEntry}
 use Rattle.wire.specs.declared.Heard.{Heard}
 use Rattle.wire.specs.declared.Heard.the-variants.{Cells, Bad}
 
--- ---- the marks of all entries
+-- ---- cells that ascend
 
--- whether one was marked reject, and whether one was not a cell's
+-- none is below the least that may follow those before
+fromLeast : ℕ → List ℕ → Bool
+fromLeast least [] = true
+fromLeast least (n ∷ ns) = leb least n && fromLeast (n + 1) ns
+
+above-least : (n : ℕ) (ns : List ℕ) → fromLeast (n + 1) ns ≡ above n ns
+unfolding above fromLeast
+above-least n [] = refl
+above-least n (k ∷ ks) =
+    by-test (ltb n k)
+    (λ t. let over : n < k = ltb-true n k t in rw (t, le-leb (n + 1) k (omega arith)) (above-least k ks))
+    (λ t. let under : k ≤ n = ltb-false n k t in rw (t, lt-leb (n + 1) k (omega arith)))
+
+least-ascending : (ns : List ℕ) → fromLeast 0 ns ≡ ascending ns
+unfolding ascending fromLeast
+least-ascending [] = refl
+least-ascending (n ∷ ns) = rw (le-leb 0 n (omega arith)) (above-least n ns)
+
+-- ---- what is gathered of all entries
+
+-- whether one was marked reject, whether one was not a cell's, whether they ascend so far, and the least number that may follow
 abbrev pub Marks : Type 0
-Marks = Bool × Bool
+Marks = Bool × (Bool × (Bool × ℕ))
+
+abbrev pub atFirst : Marks
+atFirst = (false, (false, (true, 0)))
+
+abbrev withMarks : Marks → Bool × (Bool × ℕ) → Marks
+withMarks s k = (s .0 || k .0, (s .1 .0 || k .1 .0, (s .1 .1 .0 && leb (s .1 .1 .1) (k .1 .1), k .1 .1 + 1)))
 
 abbrev pub withEntry : Marks → Element Entry → Marks
-withEntry s e = (s .0 || rejectsEntry e, s .1 || foreignEntry e)
+withEntry s e = withMarks s (marksOf e)
 
-gathered-entries : (m : Marks) (es : List (Element Entry)) → gathered withEntry m es ≡ (m .0 || any rejectsEntry es, m .1 || any foreignEntry es)
-unfolding gathered any
-gathered-entries m [] = rw (or-false (m .0), or-false (m .1))
-gathered-entries m (e ∷ es) =
-    gathered-entries (withEntry m e) es
-    ∙ rw (or-assoc (m .0) (rejectsEntry e) (any rejectsEntry es), or-assoc (m .1) (foreignEntry e) (any foreignEntry es))
+abbrev asCells : Marks → Heard
+asCells s = Cells (s .0) (s .1 .0) (s .1 .1 .0)
+
+gathered-entries : (s : Marks) (es : List (Element Entry))
+    → asCells (gathered withEntry s es) ≡ Cells (s .0 || any rejectsEntry es) (s .1 .0 || any foreignEntry es) (s .1 .1 .0 && fromLeast (s .1 .1 .1) (entryNumbers es))
+unfolding gathered any fromLeast
+gathered-entries s [] = rw (or-false (s .0), or-false (s .1 .0), and-with-true (s .1 .1 .0))
+gathered-entries s (e ∷ es) =
+    gathered-entries (withEntry s e) es
+    ∙ rw (or-assoc (s .0) (rejectsEntry e) (any rejectsEntry es), or-assoc (s .1 .0) (foreignEntry e) (any foreignEntry es), and-assoc (s .1 .1 .0) (leb (s .1 .1 .1) (numberOfEntry (e .contents))) (fromLeast (numberOfEntry (e .contents) + 1) (entryNumbers es)))
 
 -- an entry more
-joined : (m : Marks) (x : Found (Element Entry)) → summed (withEntry m) x ≡ summed (λ k. (m .0 || k .0, m .1 || k .1)) (summed marksOf x)
-joined m nothing = refl
-joined m (found e r) = refl
+joined : (s : Marks) (x : Found (Element Entry)) → summed (withEntry s) x ≡ summed (withMarks s) (summed marksOf x)
+joined s nothing = refl
+joined s (found e r) = refl
 
-module _ (m : Marks) (l : List ℕ) (at : ℕ) where
-  pub entry-broken : EntryAt l at NoEntry → summed (withEntry m) (entryElement .parse (drop at l)) ≡ nothing
-  entry-broken read = joined m (entryElement .parse (drop at l)) ∙ ap (summed (λ k. (m .0 || k .0, m .1 || k .1))) (sym (read .says))
+module _ (m : Message) (s : Marks) (l : List ℕ) (at : ℕ) where
+  pub entry-broken : EntryAt m l at NoEntry → summed (withEntry s) (entryElement m .parse (drop at l)) ≡ nothing
+  entry-broken read = joined s (entryElement m .parse (drop at l)) ∙ ap (summed (withMarks s)) (sym (read .says))
 
-  pub entry-joined : (end : ℕ) (rejects foreign : Bool) → EntryAt l at (Upto end rejects foreign)
-      → summed (withEntry m) (entryElement .parse (drop at l)) ≡ found (m .0 || rejects, m .1 || foreign) (drop end l)
-  entry-joined end rejects foreign read = joined m (entryElement .parse (drop at l)) ∙ ap (summed (λ k. (m .0 || k .0, m .1 || k .1))) (sym (read .says))
+  pub entry-joined : (end : ℕ) (rejects foreign : Bool) (n : ℕ) → EntryAt m l at (Upto end rejects foreign n)
+      → summed (withEntry s) (entryElement m .parse (drop at l)) ≡ found (withMarks s (rejects, (foreign, n))) (drop end l)
+  entry-joined end rejects foreign n read = joined s (entryElement m .parse (drop at l)) ∙ ap (summed (withMarks s)) (sym (read .says))
 
 -- ---- what the list tells
 
-abbrev asCells : Marks → Heard
-asCells m = Cells (m .0) (m .1)
-
-marks-told : (x : Found (List (Element Entry))) → allOf (summed kept (after x (λ es r. found (cells es) r))) [] ≡ summed asCells (allOf (summed (gathered withEntry (false, false)) x) [])
+marks-told : (x : Found (List (Element Entry))) → allOf (summed kept (after x (λ es r. found (cells es) r))) [] ≡ summed asCells (allOf (summed (gathered withEntry atFirst) x) [])
 marks-told nothing = refl
-marks-told (found es []) = ap (λ (h : Heard). found h []) (sym (ap asCells (gathered-entries (false, false) es)))
+marks-told (found es []) =
+    ap (λ (h : Heard). found h []) (sym (gathered-entries atFirst es ∙ ap (Cells (any rejectsEntry es) (any foreignEntry es)) (least-ascending (entryNumbers es))))
 marks-told (found es (b ∷ bs)) = refl
 
-module _ (l : List ℕ) where
+module _ (m : Message) (l : List ℕ) where
   abbrev pub ListGoal : Found Marks
-  ListGoal = summed (gathered withEntry (false, false)) (list .parse l)
+  ListGoal = summed (gathered withEntry atFirst) (list m .parse l)
 
-  tells : (r : Found Marks) → ListGoal ≡ r → allOf (summed kept (contentsBy theCells .parse l)) [] ≡ summed asCells (allOf r [])
+  tells : (r : Found Marks) → ListGoal ≡ r → allOf (summed kept (contentsBy m theCells .parse l)) [] ≡ summed asCells (allOf r [])
   unfolding contentsBy as-if
-  tells r e = marks-told (list .parse l) ∙ ap (λ (x : Found Marks). summed asCells (allOf x [])) e
+  tells r e = marks-told (list m .parse l) ∙ ap (λ (x : Found Marks). summed asCells (allOf x [])) e
 
-  pub list-none : ListGoal ≡ nothing → Tells (contentsBy theCells) l Bad
+  pub list-none : ListGoal ≡ nothing → Tells (contentsBy m theCells) l Bad
   list-none e = sym (tells nothing e)
 
   pub list-cut : length l < 2 → ListGoal ≡ nothing
   unfolding list behind fromOne as-if only
   list-cut h = rw (number-cut l 0 2 2 refl (omega arith) h)
 
-  module _ (m : ℕ) (long : 2 ≤ length l) (here : m ≡ be (gets l 0 2)) where
-    pub list-many : 512 ≤ m → ListGoal ≡ nothing
+  module _ (n : ℕ) (long : 2 ≤ length l) (here : n ≡ be (gets l 0 2)) where
+    pub list-many : 512 ≤ n → ListGoal ≡ nothing
     unfolding list behind fromOne as-if only
-    list-many h = rw (number-found l 0 2 2 refl long, ← here, le-ltb m 512 h)
+    list-many h = rw (number-found l 0 2 2 refl long, ← here, le-ltb n 512 h)
 
-    pub list-start : m < 512 → Walking entryElement withEntry ListGoal l (m + 1) 2 (false, false)
+    pub list-start : n < 512 → Walking (entryElement m) withEntry ListGoal l (n + 1) 2 atFirst
     unfolding list behind fromOne as-if only times
-    list-start h = record { within = long; comes = rw (number-found l 0 2 2 refl long, ← here, lt-ltb m 512 h) }
+    list-start h = record { within = long; comes = rw (number-found l 0 2 2 refl long, ← here, lt-ltb n 512 h) }
 
-  module _ (r f : Bool) (at : ℕ) (e : ListGoal ≡ found (r, f) (drop at l)) where
-    pub list-behind : at ≤ length l → (at ≡ length l → ⊥) → Tells (contentsBy theCells) l Bad
+  module _ (s : Marks) (at : ℕ) (e : ListGoal ≡ found s (drop at l)) where
+    pub list-behind : at ≤ length l → (at ≡ length l → ⊥) → Tells (contentsBy m theCells) l Bad
     list-behind h other =
         let more : at < length l = omega (arith, other) in
-        sym (tells (found (r, f) (drop at l)) e ∙ ap (λ (s : List ℕ). summed asCells (allOf (found (r, f) s) [])) (drop-cons l at 0 more))
+        sym (tells (found s (drop at l)) e ∙ ap (λ (r : List ℕ). summed asCells (allOf (found s r) [])) (drop-cons l at 0 more))
 
-    pub list-fine : at ≡ length l → Tells (contentsBy theCells) l (Cells r f)
+    pub list-fine : at ≡ length l → Tells (contentsBy m theCells) l (asCells s)
     list-fine h =
         let all : length l ≤ at = omega arith in
-        sym (tells (found (r, f) (drop at l)) e ∙ ap (λ (s : List ℕ). summed asCells (allOf (found (r, f) s) [])) (drop-of-length-le l all))
+        sym (tells (found s (drop at l)) e ∙ ap (λ (r : List ℕ). summed asCells (allOf (found s r) [])) (drop-of-length-le l all))

@@ -13,7 +13,7 @@ use Rattle.formats.specs.Format.{Found, nothing, found, after, number, only, as
 use Rattle.formats.specs.Bits.{width, cut, padded, bits}
 use Rattle.formats.proofs.ReadLaws.{bits-cut, bits-set, bits-found}
 use Rattle.formats.proofs.SummaryLaws.{nothing-found, found-value}
-use Rattle.wire.specs.CancelRequest.{noteFields}
+use Rattle.wire.specs.MessageTree.{noteFields}
 use Rattle.wire.specs.Readers.{NoteAt}
 use Rattle.wire.specs.declared.Note.the-variants.{Fields, NoNote}
 

@@ -9,10 +9,10 @@ use Rattle.rules.proofs.TestLaws.{by-test}
 use Rattle.formats.specs.Summary.{gathered}
 use Rattle.aper.specs.Elements.{Element, Extensions, marked}
 use Rattle.wire.specs.Cells.{Entry, listed, foreign}
-use Rattle.wire.specs.CancelRequest.{Contents, transaction, requested, cells, cancelAll, notification, other, Elements}
-use Rattle.wire.specs.CancelRefusals.{rejectingEntry, rejectsEntry, rejectingContents, rejecting, isForeign, foreignEntry, lackingContents, lacking, knownContents, isKnown, knownIds}
-use Rattle.wire.specs.CancelRead.{Cancel, nothingSaid, identityIn, identities, saidBy, alsoSaid, said}
-use Rattle.wire.specs.CancelPromises.{leftOf, bareEntry, bareContents, bareElement, skippedContents, skipped, bare}
+use Rattle.wire.specs.MessageTree.{Contents, transaction, requested, cells, cancelAll, notification, other, Elements}
+use Rattle.wire.specs.MessageRefusals.{rejectingEntry, rejectsEntry, rejectingContents, rejecting, isForeign, foreignEntry, lackingContents, lacking, knownContents, isKnown, knownIds}
+use Rattle.wire.specs.MessageSaid.{Said, nothingSaid, rowIn, rowsIn, saidBy, alsoSaid, said}
+use Rattle.wire.specs.MessagePromises.{leftOf, bareEntry, bareContents, bareElement, skippedContents, skipped, bare}
 
 -- ---- extensions: those that are left have every mark
 
@@ -44,14 +44,14 @@ unfolding any
 foreign-entries [] = refl
 foreign-entries (e ∷ es) = rw (foreign-entry e (e .contents), foreign-entries es)
 
-identity-entry : (e : Element Entry) (x : Entry) → identityIn (bareEntry e x .contents) ≡ identityIn x
-identity-entry e (listed i) = refl
-identity-entry e (foreign s) = refl
+row-entry : (e : Element Entry) (x : Entry) → rowIn (bareEntry e x .contents) ≡ rowIn x
+row-entry e (listed i) = refl
+row-entry e (foreign s) = refl
 
-same-identities : (es : List (Element Entry)) → identities (bareEntries es) ≡ identities es
-unfolding identities flatMap
-same-identities [] = refl
-same-identities (e ∷ es) = rw (identity-entry e (e .contents), same-identities es)
+same-rows : (es : List (Element Entry)) → rowsIn (bareEntries es) ≡ rowsIn es
+unfolding rowsIn flatMap
+same-rows [] = refl
+same-rows (e ∷ es) = rw (row-entry e (e .contents), same-rows es)
 
 -- ---- one element
 
@@ -79,11 +79,11 @@ known-bare cancelAll = refl
 known-bare (notification n) = refl
 known-bare (other s) = refl
 
-said-bare : (c : Cancel) (x : Contents) → saidBy c (bareContents x) ≡ saidBy c x
+said-bare : (c : Said) (x : Contents) → saidBy c (bareContents x) ≡ saidBy c x
 unfolding saidBy
 said-bare c (transaction t) = refl
 said-bare c (requested n) = refl
-said-bare c (cells es) = rw (same-identities es)
+said-bare c (cells es) = rw (same-rows es)
 said-bare c cancelAll = refl
 said-bare c (notification n) = refl
 said-bare c (other s) = refl
@@ -93,7 +93,7 @@ record SaysNothing (e : Element Contents) (x : Contents) : Type 0 where
   rejects : rejectingContents e x ≡ false
   lacks : lackingContents x ≡ false
   unknown : knownContents x ≡ false
-  silent : (c : Cancel) → saidBy c x ≡ c
+  silent : (c : Said) → saidBy c x ≡ c
 
 says-nothing : (e : Element Contents) (x : Contents) → skippedContents e x ≡ true → SaysNothing e x
 unfolding saidBy
@@ -126,7 +126,7 @@ same-ids (e ∷ es) =
     (λ t. rw (t, says-nothing e (e .contents) t .unknown) (same-ids es))
     (λ t. by-test (isKnown e) (λ k. rw (t, known-bare (e .contents), k, same-ids es)) (λ k. rw (t, known-bare (e .contents), k, same-ids es)))
 
-said-on : (c : Cancel) (es : Elements) → gathered alsoSaid c (bare es) ≡ gathered alsoSaid c es
+said-on : (c : Said) (es : Elements) → gathered alsoSaid c (bare es) ≡ gathered alsoSaid c es
 unfolding gathered bare those flatMap
 said-on c [] = refl
 said-on c (e ∷ es) =

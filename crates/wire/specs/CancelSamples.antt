@@ -3,15 +3,19 @@ use mathlib.Core.Path.{_≡_}
 use mathlib.Core.Bool.{true}
 use mathlib.Core.List.{List, [], _∷_, _++_}
 use Prim.Native.Nat.{ℕ, suc, zero, _+_, _*_, _^_}
+use Rattle.rules.specs.Reply.{Row}
 use Rattle.rules.specs.Refusals.{verdictNumber}
 use Rattle.rules.specs.declared.Verdict.the-variants.{Accepted}
 use Rattle.formats.specs.Format.{found}
 use Rattle.aper.specs.Elements.{Element}
 use Rattle.wire.specs.Frame.{Frame}
 use Rattle.wire.specs.Cells.{Entry, listed}
-use Rattle.wire.specs.CancelRequest.{transaction, requested, cells, cancelAll, notification, other, Elements, request}
-use Rattle.wire.specs.CancelRead.{cancelVerdict, said, cancelRead}
-use Rattle.wire.specs.CancelPromises.{bare}
+use Rattle.wire.specs.MessageTree as tree
+use Rattle.wire.specs.MessageTree.{transaction, requested, cells, cancelAll, notification, other, Elements}
+use Rattle.wire.specs.MessageSaid.{said}
+use Rattle.wire.specs.MessagePromises.{bare}
+use Rattle.wire.specs.CancelRead.{cancelVerdict, cancelRead}
+use Rattle.wire.specs.declared.Message.the-variants.{CancelRequest}
 
 abbrev one : {C : Type 0} → ℕ → ℕ → C → Element C
 one id criticality c = record { id = id; criticality = criticality; contents = c }
@@ -63,7 +67,7 @@ abbrev pub c3 : List ℕ
 c3 = message 0x27 4 (opening ++ (0x00 ∷ 0x94 ∷ 0x00 ∷ 0x0f ∷ 0x00 ∷ 0x00 ∷ (cell 1 ++ indicator)))
 
 abbrev plain : ℕ → Element Entry
-plain n = one 149 0 (listed (record { plmn = 0x00f110; cell = n; cellExtensions = []; extensions = [] }))
+plain n = one 149 0 (listed (record { plmn = 0x00f110; cell = n; cellExtensions = []; count = 0; extensions = [] }))
 
 abbrev pub t3 : Elements
 t3 = one 78 0 (transaction 7) ∷ one 142 0 (requested 0) ∷ one 148 0 (cells (plain 0x10 ∷ [])) ∷ one 157 0 cancelAll ∷ []
@@ -106,7 +110,7 @@ c8 =
 abbrev pub t8 : Elements
 t8 =
     one 78 0 (transaction 7) ∷ one 142 0 (requested 0)
-    ∷ one 148 0 (cells (one 149 0 (listed (record { plmn = 0x00f110; cell = 0x10; cellExtensions = one 501 2 (0xaa ∷ 0xbb ∷ []) ∷ []; extensions = one 500 1 (0x55 ∷ []) ∷ [] })) ∷ []))
+    ∷ one 148 0 (cells (one 149 0 (listed (record { plmn = 0x00f110; cell = 0x10; cellExtensions = one 501 2 (0xaa ∷ 0xbb ∷ []) ∷ []; count = 0; extensions = one 500 1 (0x55 ∷ []) ∷ [] })) ∷ []))
     ∷ one 220 0 (notification (record { identifier = 0x1112; serial = 0x0010; extensions = one 500 1 (0xff ∷ []) ∷ [] })) ∷ []
 
 -- an unknown extension marked reject; an item with it, in its own extensions or in those of its NR CGI, by its first byte
@@ -127,7 +131,11 @@ countedRecord =
     ∷ 0x00 ∷ 0x0f ∷ 0x11 ∷ 0x00 ∷ 0x00 ∷ 0x00 ∷ 0x00 ∷ 0x10 ∷ 0x00 ∷ 0x0f ∷ 0x11 ∷ 0x00 ∷ 0x00 ∷ 0x00 ∷ 0x00 ∷ 0x20 ∷ []
 
 abbrev pub Reads : List ℕ → Elements → Type 0
-Reads b t = (request .parse b ≡ found (whole t) []) × (request .encode (whole t) ≡ b) × (cancelVerdict b 4122 ≡ Accepted)
+Reads b t = (tree.message CancelRequest .parse b ≡ found (whole t) []) × (tree.message CancelRequest .encode (whole t) ≡ b) × (cancelVerdict b 4122 ≡ Accepted)
+
+-- a cell of a list without counts
+abbrev uncounted : ℕ → Row
+uncounted n = record { identity = n; count = 0; content = 0 }
 
 -- the number that a message gets
 abbrev pub refusal : List ℕ → ℕ
@@ -143,7 +151,7 @@ pub record CancelSamples : Type 0 where
   pub extended : Reads c8 t8
   pub same : said t6 ≡ said t1
   pub bare-same : bare t6 ≡ bare t1
-  pub told : said t4 ≡ record { transaction = 7; requested = 0; cells = (0xf110 * 2 ^ 36 + 0x10) ∷ (0xf110 * 2 ^ 36 + 0x20) ∷ []; cancelsAll = true; notifies = true; identifier = 0x1112; serial = 0x0010 }
+  pub told : said t4 ≡ record { transaction = 7; requested = 0; cells = uncounted (0xf110 * 2 ^ 36 + 0x10) ∷ uncounted (0xf110 * 2 ^ 36 + 0x20) ∷ []; cancelsAll = true; notifies = true; identifier = 0x1112; serial = 0x0010 }
   -- 13: the padding and the extension bit of the message, of an element, of an indicator; a byte behind, a byte too few
   pub padding : refusal (0x00 ∷ 0x15 ∷ 0x00 ∷ 0x14 ∷ 0x01 ∷ 0x00 ∷ 0x03 ∷ (opening ++ indicator)) ≡ 13
   pub extension-bit : refusal (message 0x14 3 (opening ++ (0x00 ∷ 0x9d ∷ 0x00 ∷ 0x01 ∷ 0x80 ∷ []))) ≡ 13

@@ -17,10 +17,16 @@ pub record Frame (C : Type 0) : Type 0 where
 abbrev pub initiatingMessage : ℕ
 initiatingMessage = 0
 
+abbrev pub successfulOutcome : ℕ
+successfulOutcome = 1
+
 abbrev pub choiceExtension : ℕ
 choiceExtension = 3
 
 -- procedure codes (source document 002)
+abbrev pub writeReplaceWarning : ℕ
+writeReplaceWarning = 20
+
 abbrev pub pwsCancel : ℕ
 pwsCancel = 21
 

@@ -1,7 +1,11 @@
 pub mod Frame
+pub mod Messages
 pub mod Cells
-pub mod CancelRequest
-pub mod CancelRefusals
+pub mod MessageTree
+pub mod MessageRefusals
+pub mod MessageSaid
+pub mod MessagePromises
+pub mod MessageOutcome
 pub mod CancelRead
 pub mod CancelSamples
 pub mod CancelPromises

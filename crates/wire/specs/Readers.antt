@@ -1,19 +1,25 @@
 -- What readers of an element's contents answer: all of the bytes that are lent are read, and what the rules ask for is kept.
 use mathlib.Core.Path.{_≡_}
 use mathlib.Core.Bool.{Bool, true, false}
-use mathlib.Core.List.{List, [], _∷_}
-use Prim.Native.Nat.{ℕ, _+_, _-_, _≤_}
+use mathlib.Core.List.{List, [], _∷_, map}
+use Prim.Native.Nat.{ℕ, _+_, _-_, _/_, _<_, _≤_}
 use lib.ListN.{length, take, drop}
-use Rattle.rules.specs.Lists.{any}
+use Rattle.octets.specs.Runs.{gets}
+use Rattle.octets.specs.Numbers.{be}
+use Rattle.rules.specs.Lists.{any, ascending}
+use Rattle.rules.specs.Layout.{cellEnd}
+use Rattle.rules.specs.Identity.{identityOf}
 use Rattle.formats.specs.Format.{Found, nothing, found, allOf, Format}
 use Rattle.formats.specs.Summary.{summed}
 use Rattle.formats.specs.Bits.{bits}
 use Rattle.aper.specs.Elements.{Element, marked}
 use Rattle.aper.specs.Readers.{ElementAt}
 use Rattle.aper.specs.declared.Step.the-variants.{One}
-use Rattle.wire.specs.Cells.{item, Entry, itemId, entryElement}
-use Rattle.wire.specs.CancelRequest.{noteFields, Contents, transaction, requested, cells, cancelAll, notification, other}
-use Rattle.wire.specs.CancelRefusals.{rejectingItem, rejectsEntry, foreignEntry}
+use Rattle.wire.specs.Messages.{itemId, countSize}
+use Rattle.wire.specs.Cells.{Item, item, Entry, listed, foreign, entryElement}
+use Rattle.wire.specs.MessageTree.{noteFields, Contents, transaction, requested, cells, cancelAll, notification, other}
+use Rattle.wire.specs.MessageRefusals.{rejectingItem, rejectsEntry, foreignEntry}
+use Rattle.wire.specs.declared.Message.{Message}
 use Rattle.wire.specs.declared.Grade.{Grade}
 use Rattle.wire.specs.declared.Grade.the-variants.{Fine, NoItem}
 use Rattle.wire.specs.declared.Listed.{Listed}
@@ -36,45 +42,66 @@ pub record NoteAt (l : List ℕ) (at : ℕ) (r : Note) : Type 0 where
   pub says : noteBy l r ≡ bits 5 noteFields .parse (drop at l)
   pub lies : NoteLies l r
 
--- bytes that are an item and nothing else: whether an extension in it is marked reject
-abbrev pub gradeBy : Grade → Found Bool
-gradeBy (Fine b) = found b []
+-- bytes that are an item and nothing else: whether an extension in it is marked reject, and its cell's number
+abbrev pub gradeBy : Grade → Found (Bool × ℕ)
+gradeBy (Fine b n) = found (b, n) []
 gradeBy NoItem = nothing
 
-abbrev pub ItemGraded : List ℕ → Grade → Type 0
-ItemGraded l r = gradeBy r ≡ allOf (summed rejectingItem (item .parse l)) []
+abbrev pub graded : Item → Bool × ℕ
+graded i = (rejectingItem i, identityOf (i .plmn) (i .cell))
 
--- an item of the list in thirteen bytes, without extensions; of anything else nothing is said
-pub record PlainAt (l : List ℕ) (at : ℕ) : Type 0 where
+abbrev pub ItemGraded : Message → List ℕ → Grade → Type 0
+ItemGraded m l r = gradeBy r ≡ allOf (summed graded (item m .parse l)) []
+
+-- and that number is a cell's
+abbrev pub GradeLies : Grade → Type 0
+GradeLies (Fine b n) = n < cellEnd
+GradeLies NoItem = Unit {0}
+
+-- the bytes of an item without extensions
+abbrev pub plainSize : Message → ℕ
+plainSize m = 9 + countSize m
+
+-- an item of the list without extensions, behind its id, criticality and length; of anything else nothing is said
+pub record PlainAt (m : Message) (l : List ℕ) (at : ℕ) : Type 0 where
   pub criticality : ℕ
-  pub read : ElementAt l at (One itemId criticality (at + 4) (at + 13))
-  pub graded : ItemGraded (take (at + 13 - (at + 4)) (drop (at + 4) l)) (Fine false)
+  pub read : ElementAt l at (One (itemId m) criticality (at + 4) (at + (4 + plainSize m)))
+  pub graded : ItemGraded m (take (at + (4 + plainSize m) - (at + 4)) (drop (at + 4) l)) (Fine false (be (gets l (at + 5) 8) / 16))
 
-abbrev pub PlainItem : List ℕ → ℕ → Bool → Type 0
-PlainItem l at true = PlainAt l at
-PlainItem l at false = Unit {0}
+abbrev pub PlainItem : Message → List ℕ → ℕ → Bool → Type 0
+PlainItem m l at true = PlainAt m l at
+PlainItem m l at false = Unit {0}
 
--- an entry of the list at an index: whether something in it is marked reject, and whether it is not a cell's
-abbrev pub marksOf : Element Entry → Bool × Bool
-marksOf e = (rejectsEntry e, foreignEntry e)
+-- the number of an entry's cell, 0 where it is not a cell's
+abbrev pub numberOfEntry : Entry → ℕ
+numberOfEntry (listed i) = identityOf (i .plmn) (i .cell)
+numberOfEntry (foreign s) = 0
 
-abbrev pub entryBy : List ℕ → Listed → Found (Bool × Bool)
-entryBy l (Upto end rejects foreign) = found (rejects, foreign) (drop end l)
+abbrev pub entryNumbers : List (Element Entry) → List ℕ
+entryNumbers es = map (λ e. numberOfEntry (e .contents)) es
+
+-- an entry of the list at an index: whether something in it is marked reject, whether it is not a cell's, and its cell's number
+abbrev pub marksOf : Element Entry → Bool × (Bool × ℕ)
+marksOf e = (rejectsEntry e, (foreignEntry e, numberOfEntry (e .contents)))
+
+abbrev pub entryBy : List ℕ → Listed → Found (Bool × (Bool × ℕ))
+entryBy l (Upto end rejects alien identity) = found (rejects, (alien, identity)) (drop end l)
 entryBy l NoEntry = nothing
 
 abbrev pub EntryLies : List ℕ → Listed → Type 0
-EntryLies l (Upto end rejects foreign) = end ≤ length l
+EntryLies l (Upto end rejects alien identity) = (end ≤ length l) × (identity < cellEnd)
 EntryLies l NoEntry = Unit {0}
 
-pub record EntryAt (l : List ℕ) (at : ℕ) (r : Listed) : Type 0 where
-  pub says : entryBy l r ≡ summed marksOf (entryElement .parse (drop at l))
+pub record EntryAt (m : Message) (l : List ℕ) (at : ℕ) (r : Listed) : Type 0 where
+  pub says : entryBy l r ≡ summed marksOf (entryElement m .parse (drop at l))
   pub lies : EntryLies l r
 
--- what an element tells: of a list and of a notification whether something in them is marked reject, of a list whether an item is not a cell's
+-- what an element tells: of a list and of a notification whether something in them is marked reject, of a list whether an item is not a cell's and whether
+-- the cells ascend
 abbrev pub kept : Contents → Heard
 kept (transaction t) = Transaction t
 kept (requested n) = Requested n
-kept (cells es) = Cells (any rejectsEntry es) (any foreignEntry es)
+kept (cells es) = Cells (any rejectsEntry es) (any foreignEntry es) (ascending (entryNumbers es))
 kept cancelAll = CancelAll
 kept (notification n) = Notification (any marked (n .extensions)) (n .identifier) (n .serial)
 kept (other s) = Unknown
@@ -82,7 +109,7 @@ kept (other s) = Unknown
 abbrev pub heardBy : Heard → Found Heard
 heardBy (Transaction t) = found (Transaction t) []
 heardBy (Requested n) = found (Requested n) []
-heardBy (Cells r f) = found (Cells r f) []
+heardBy (Cells r f a) = found (Cells r f a) []
 heardBy CancelAll = found CancelAll []
 heardBy (Notification r i s) = found (Notification r i s) []
 heardBy Unknown = found Unknown []

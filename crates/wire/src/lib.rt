@@ -1,58 +1,49 @@
-// PWS CANCEL REQUEST (document 02, 5/13): as a tree and a format, its refusals and the record that it becomes in specs/; here what each element tells.
-// Contents are lent: each reader takes all of its bytes, and nothing else.
+// PWS CANCEL REQUEST and the two responses (document 02, 5/13 and 6/13): as trees and formats, their refusals and what they say in specs/; here what each
+// element tells. Contents are lent: each reader takes all of its bytes, and nothing else.
+pub mod list;
+
 ghost use mathlib.Core.Path.{_≡_};
 ghost use Prim.Native.Nat.{_≤_};
 ghost use lib.ListN.{length};
-ghost use Rattle.wire.specs.CancelRequest.{Name, theTransaction, theRequested, theCells, theIndicator, theNotification, contents, contentsBy};
-ghost use Rattle.wire.specs.Readers.{NoteAt, ItemGraded, PlainItem, EntryAt, Tells};
-use aper::CRITICALITIES;
-use aper::REJECT;
+ghost use Rattle.wire.specs.Messages.{Name, theTransaction, theRequested, theIndicator, theNotification, cellsId, besideName, furtherName};
+ghost use Rattle.wire.specs.declared.Message.the-variants.{CancelRequest};
+ghost use Rattle.wire.specs.MessageTree.{contents, contentsBy};
+ghost use Rattle.wire.specs.Readers.{NoteAt, Tells};
+use crate::list::cells;
 use aper::Run;
-use aper::Step;
-use aper::element_at;
 use aper::given_at;
 use octets::get8;
 use octets::get16;
-use octets::get32;
+use rules::Refusal;
 
-// The known elements' ids.
+// The messages that are read.
+pub enum Message {
+    CancelRequest,
+    CancelResponse,
+    WriteReplaceResponse,
+}
+
+// What a reader of messages answers: the transaction identifier and the length of what was written, or why nothing was.
+pub enum Taking {
+    Taken(u16, usize),
+    Untaken(Refusal),
+}
+
+// The known elements' ids; that of the list is the message's own.
 const TRANSACTION: u16 = 78;
 
 const REQUESTED: u16 = 142;
-
-const CELLS: u16 = 148;
-
-const ITEM: u16 = 149;
 
 const CANCEL_ALL: u16 = 157;
 
 const NOTIFICATION: u16 = 220;
 
-// An item's bytes without extensions, and the last of them.
-const ITEM_BYTES: usize = 9;
-
-const LAST_OF_ITEM: usize = ITEM_BYTES - 1;
-
-// Such an item in the list stands behind its id, criticality and length.
-const LISTED_HEAD: usize = 4;
-
-const LISTED_BYTES: usize = LISTED_HEAD + ITEM_BYTES;
-
-const LAST_LISTED: usize = LISTED_HEAD + LAST_OF_ITEM;
-
-// Its id and its length as they stand in its first four bytes.
-const ITEM_ID: u32 = ITEM as u32;
-
-const PLAIN_LENGTH: u32 = ITEM_BYTES as u32;
-
-const MOST_LISTED: usize = 512;
-
-// What an element tells. Of the list: whether something in it is marked reject, and whether an item is not a cell's. Of a notification: whether
-// something in it is marked reject, the message identifier, the serial number.
+// What an element tells. Of the list: whether something in it is marked reject, whether an item is not a cell's, whether the cells ascend. Of a
+// notification: whether something in it is marked reject, the message identifier, the serial number.
 pub enum Heard {
     Transaction(u8),
     Requested(u16),
-    Cells(bool, bool),
+    Cells(bool, bool, bool),
     CancelAll,
     Notification(bool, u16, u16),
     Unknown,
@@ -65,20 +56,20 @@ enum Note {
     NoNote,
 }
 
-// An entry of the list: where it ends, whether something in it is marked reject, and whether it is not a cell's.
+// An entry of the list: where it ends, whether something in it is marked reject, whether it is not a cell's, and its cell's number.
 enum Listed {
-    Upto(usize, bool, bool),
+    Upto(usize, bool, bool, u64),
     NoEntry,
 }
 
-// Bytes that are to be an item and nothing else: whether an extension in it is marked reject.
+// Bytes that are to be an item and nothing else: whether an extension in it is marked reject, and its cell's number.
 enum Grade {
-    Fine(bool),
+    Fine(bool, u64),
     NoItem,
 }
 
 fn transaction(part: &[u8]) -> Heard
-    ensures { λ r. ⌜ Tells (contentsBy theTransaction) (now (part .entry)) r ⌝ }
+    ensures { λ r. ⌜ Tells (contentsBy CancelRequest theTransaction) (now (part .entry)) r ⌝ }
 {
     if part.len() != 2 {
         return Heard::Bad;
@@ -90,7 +81,7 @@ fn transaction(part: &[u8]) -> Heard
 }
 
 fn requested(part: &[u8]) -> Heard
-    ensures { λ r. ⌜ Tells (contentsBy theRequested) (now (part .entry)) r ⌝ }
+    ensures { λ r. ⌜ Tells (contentsBy CancelRequest theRequested) (now (part .entry)) r ⌝ }
 {
     if part.len() != 2 {
         return Heard::Bad;
@@ -99,7 +90,7 @@ fn requested(part: &[u8]) -> Heard
 }
 
 fn indicator(part: &[u8]) -> Heard
-    ensures { λ r. ⌜ Tells (contentsBy theIndicator) (now (part .entry)) r ⌝ }
+    ensures { λ r. ⌜ Tells (contentsBy CancelRequest theIndicator) (now (part .entry)) r ⌝ }
 {
     if part.len() != 1 {
         return Heard::Bad;
@@ -137,7 +128,7 @@ fn note_at(s: &[u8], at: usize) -> Note
 }
 
 fn notification(part: &[u8]) -> Heard
-    ensures { λ r. ⌜ Tells (contentsBy theNotification) (now (part .entry)) r ⌝ }
+    ensures { λ r. ⌜ Tells (contentsBy CancelRequest theNotification) (now (part .entry)) r ⌝ }
 {
     match note_at(part, 0) {
         Note::NoNote => Heard::Bad,
@@ -153,115 +144,26 @@ fn notification(part: &[u8]) -> Heard
     }
 }
 
-// Two sets of extensions may follow the fixed bytes, NR CGI's first.
-fn item_grade(s: &[u8]) -> Grade
-    ensures { λ r. ⌜ ItemGraded (now (s .entry)) r ⌝ }
+// ---- what tells the messages apart
+
+fn cells_id(m: Message) -> u16
+    ensures { λ r. ⌜ r ≡ cellsId m ⌝ }
 {
-    if s.len() < ITEM_BYTES {
-        return Grade::NoItem;
-    }
-    let flags = get8(s, 0);
-    let last = get8(s, LAST_OF_ITEM);
-    if (flags / 128 == 0) & (flags % 64 / 32 == 0) & (flags % 16 == 0) & (last % 16 == 0) {
-        match given_at(s, ITEM_BYTES, flags / 16 % 2) {
-            Run::NoRun => Grade::NoItem,
-            Run::Upto(next, first) => match given_at(s, next, flags / 64 % 2) {
-                Run::NoRun => Grade::NoItem,
-                Run::Upto(end, second) => {
-                    if end == s.len() {
-                        return Grade::Fine(first | second);
-                    }
-                    Grade::NoItem
-                }
-            },
-        }
-    } else {
-        Grade::NoItem
+    match m {
+        Message::CancelRequest => 148,
+        Message::CancelResponse => 150,
+        Message::WriteReplaceResponse => 146,
     }
 }
 
-// An item as most are, without extensions: its id, its length and its padding are seen at once. Of anything else nothing is said.
-fn plain_item(s: &[u8], at: usize) -> bool
-    requires { ⌜ at ≤ length (now s) ⌝ }
-    ensures { λ r. ⌜ PlainItem (now (s .entry)) at r ⌝ }
-{
-    if s.len() - at < LISTED_BYTES {
-        return false;
-    }
-    let head = get32(s, at);
-    let flags = get8(s, at + LISTED_HEAD);
-    let last = get8(s, at + LAST_LISTED);
-    (head / 65536 == ITEM_ID) & (head % 16384 == PLAIN_LENGTH) & (flags == 0) & (last % 16 == 0)
-}
+// ---- by its id
 
-// The entry of the list at an index. An item's bytes are lent on; another element is not looked into, and is never skipped.
-fn entry_at(s: &[u8], at: usize) -> Listed
-    requires { ⌜ at ≤ length (now s) ⌝ }
-    ensures { λ r. ⌜ EntryAt (now (s .entry)) at r ⌝ }
+// What only a cancel request has.
+fn further(id: u16, part: &[u8]) -> Heard
+    ensures { λ r. ⌜ Tells (contentsBy CancelRequest (furtherName CancelRequest id)) (now (part .entry)) r ⌝ }
 {
-    if plain_item(s, at) {
-        return Listed::Upto(at + LISTED_BYTES, false, false);
-    }
-    match element_at(s, at) {
-        Step::NoElement => Listed::NoEntry,
-        Step::One(id, criticality, start, end) => {
-            if id == ITEM {
-                return match item_grade(&s[start..end]) {
-                    Grade::NoItem => Listed::NoEntry,
-                    Grade::Fine(rejected) => Listed::Upto(end, rejected, false),
-                };
-            }
-            if CRITICALITIES <= criticality {
-                return Listed::NoEntry;
-            }
-            Listed::Upto(end, criticality == REJECT, true)
-        }
-    }
-}
-
-fn cells(s: &[u8]) -> Heard
-    ensures { λ r. ⌜ Tells (contentsBy theCells) (now (s .entry)) r ⌝ }
-{
-    if s.len() < 2 {
-        return Heard::Bad;
-    }
-    let last = get16(s, 0) as usize;
-    if MOST_LISTED <= last {
-        return Heard::Bad;
-    }
-    let mut left = last + 1;
-    let mut at: usize = 2;
-    let mut rejected = false;
-    let mut foreign = false;
-    while 0 < left {
-        match entry_at(s, at) {
-            Listed::NoEntry => return Heard::Bad,
-            Listed::Upto(end, rejects, is_foreign) => {
-                rejected = rejected | rejects;
-                foreign = foreign | is_foreign;
-                at = end;
-                left -= 1;
-            }
-        }
-    }
-    if at != s.len() {
-        return Heard::Bad;
-    }
-    Heard::Cells(rejected, foreign)
-}
-
-// What the element with this id tells; of an unknown one nothing is read.
-pub fn hear(id: u16, part: &[u8]) -> Heard
-    ensures { λ r. ⌜ Tells (contents id) (now (part .entry)) r ⌝ }
-{
-    if id == TRANSACTION {
-        return transaction(part);
-    }
     if id == REQUESTED {
         return requested(part);
-    }
-    if id == CELLS {
-        return cells(part);
     }
     if id == CANCEL_ALL {
         return indicator(part);
@@ -270,4 +172,38 @@ pub fn hear(id: u16, part: &[u8]) -> Heard
         return notification(part);
     }
     Heard::Unknown
+}
+
+// The list has two callers, so that its loop is a function of its own and not a part of the loop over all elements, which would leave it no registers.
+fn in_request(id: u16, part: &[u8]) -> Heard
+    ensures { λ r. ⌜ Tells (contentsBy CancelRequest (besideName CancelRequest id)) (now (part .entry)) r ⌝ }
+{
+    if id == cells_id(Message::CancelRequest) {
+        return cells(Message::CancelRequest, part);
+    }
+    further(id, part)
+}
+
+fn in_response(m: Message, id: u16, part: &[u8]) -> Heard
+    requires { ⌜ (m ≡ CancelRequest → ⊥) ⌝ }
+    ensures { λ r. ⌜ Tells (contentsBy m (besideName m id)) (now (part .entry)) r ⌝ }
+{
+    if id == cells_id(m) {
+        return cells(m, part);
+    }
+    Heard::Unknown
+}
+
+// What the element with this id tells; of an unknown one nothing is read.
+pub fn hear(m: Message, id: u16, part: &[u8]) -> Heard
+    ensures { λ r. ⌜ Tells (contents m id) (now (part .entry)) r ⌝ }
+{
+    if id == TRANSACTION {
+        return transaction(part);
+    }
+    match m {
+        Message::CancelRequest => in_request(id, part),
+        Message::CancelResponse => in_response(m, id, part),
+        Message::WriteReplaceResponse => in_response(m, id, part),
+    }
 }

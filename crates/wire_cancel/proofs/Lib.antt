@@ -1,8 +1,5 @@
-pub mod CellLaws
-pub mod ComeLaws
-pub mod NamesLaws
-pub mod WholeListLaws
-pub mod RecordLaws
 pub mod RequestLaws
+pub mod RecordLaws
+pub mod StoredLaws
 pub mod TakenLaws
 pub mod Once

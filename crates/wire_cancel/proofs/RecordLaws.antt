@@ -18,12 +18,13 @@ use Rattle.rules.specs.declared.Refusal.the-variants.{CancelsNothing, ShortBuff
 use Rattle.rules.specs.declared.Request.{Request}
 use Rattle.rules.specs.declared.Writing.the-variants.{Written, Unwritten}
 use Rattle.record_write.proofs.WriteLaws.{bytes-size, one-store}
-use Rattle.formats.specs.Format.{Found, nothing, found}
-use Rattle.aper.specs.Elements.{Element}
-use Rattle.wire.specs.Cells.{Entry, list}
-use Rattle.wire.specs.CancelRead.{Cancel, flagsOf, areaNamed, cancelRequest, recordRoom, recordOf}
-use Rattle.wire_judge.specs.Account.{listAt, accountBy, WholeList, Lies}
+use Rattle.wire.specs.MessageSaid.{Said}
+use Rattle.wire.specs.declared.Message.the-variants.{CancelRequest}
+use Rattle.wire.specs.CancelRead.{named, flagsOf, areaNamed, cancelRequest, recordRoom, recordOf}
+use Rattle.wire_judge.specs.Account.{listAt, accountBy, Lies}
 use Rattle.wire_judge.specs.declared.Seen.{Seen}
+use Rattle.wire_cells.specs.Listed.{JudgedList, rowsListed}
+use Rattle.wire_cells.proofs.WholeListLaws.{lies-judged}
 use Rattle.wire_cancel.specs.Taken.{cellsListed, areaBy, requestBy, recorded}
 
 -- ---- what was seen
@@ -43,11 +44,11 @@ module _ (l : List ℕ) (s : Seen) where
   abbrev pub part : List ℕ
   part = take (s .end - s .start) (drop (s .start) l)
 
-  abbrev pub Says : Cancel
-  Says = accountBy l s .says
+  abbrev pub Says : Said
+  Says = accountBy CancelRequest l s .says
 
-  pub cells-said : cellsListed part ≡ Says .cells
-  unfolding accountBy listAt cellsListed
+  pub cells-said : cellsListed part ≡ named Says
+  unfolding accountBy listAt rowsListed
   cells-said = refl
 
   pub some-said : cancelsSome (cancelRequest Says) ≡ (s .all || s .noted)
@@ -55,22 +56,15 @@ module _ (l : List ℕ) (s : Seen) where
   some-said = flags-some (s .all) (s .noted)
 
   pub request-said : {n : ℕ} → n ≡ length (cellsListed part) → requestBy s n ≡ cancelRequest Says
-  unfolding requestBy cancelRequest accountBy listAt cellsListed
+  unfolding requestBy cancelRequest accountBy listAt rowsListed
   request-said e = rw (e, area-named (cellsListed part))
 
-  pub part-whole : Lies l s → s .lacks ≡ false → WholeList (length part) false (list .parse part)
-  part-whole lies own = unfold listAt in of (list .parse part) (lies .list)
-    where
-      of : (x : Found (List (Element Entry))) → WholeList (s .end) (s .lacks) x → WholeList (length part) false x
-      of nothing e =
-          let inside : s .end - s .start ≤ length (drop (s .start) l) = rw length-drop (omega (arith, lies .ends)) in
-          length-take-le (s .end - s .start) (drop (s .start) l) inside ∙ omega arith
-      of (found es []) whole = λ _. whole own
-      of (found es (b ∷ bs)) whole = whole
+  pub part-whole : Lies CancelRequest l s → s .lacks ≡ false → JudgedList CancelRequest part
+  part-whole lies own = lies-judged CancelRequest l s lies own
 
 -- ---- what is written
 
-module _ (c : Cancel) (buffer : List ℕ) where
+module _ (c : Said) (buffer : List ℕ) where
   pub none-put : cancelsSome (cancelRequest c) ≡ false → filledBy (Unwritten CancelsNothing) buffer ≡ recorded c buffer
   unfolding recorded fill
   none-put t = rw t
@@ -80,9 +74,9 @@ module _ (c : Cancel) (buffer : List ℕ) where
     unfolding recorded fill
     short-put h = rw (some, lt-leb (recordRoom c) (length buffer) h)
 
-    pub record-put : recordRoom c ≤ length buffer → {n : ℕ} {q : Request} {a b : List ℕ} → n ≡ length (c .cells) → q ≡ cancelRequest c
-        → a ≡ sets buffer 0 (bytesOf recordFields (requestNumbers q n)) → b ≡ sets a recordSize (flatMap (toBe (itemSize current)) (c .cells))
+    pub record-put : recordRoom c ≤ length buffer → {n : ℕ} {q : Request} {a b : List ℕ} → n ≡ length (named c) → q ≡ cancelRequest c
+        → a ≡ sets buffer 0 (bytesOf recordFields (requestNumbers q n)) → b ≡ sets a recordSize (flatMap (toBe (itemSize current)) (named c))
         → filledBy (Written (recordSize + itemSize current * n)) b ≡ recorded c buffer
     unfolding recorded fill recordOf
     record-put h e q p₁ p₂ =
-        rw (some, le-leb (recordRoom c) (length buffer) h, p₂, p₁, q, e, one-store (cancelRequest c) (c .cells) buffer, bytes-size (cancelRequest c) (c .cells))
+        rw (some, le-leb (recordRoom c) (length buffer) h, p₂, p₁, q, e, one-store (cancelRequest c) (named c) buffer, bytes-size (cancelRequest c) (named c))

@@ -3,25 +3,22 @@
 ghost use mathlib.Core.Path.{_≡_};
 ghost use mathlib.Core.Bool.{false};
 ghost use mathlib.Core.List.{flatMap};
-ghost use Prim.Native.Nat.{_+_, _*_, _/_, _≤_};
+ghost use Prim.Native.Nat.{_+_, _*_, _≤_};
 ghost use lib.ListN.{length};
 ghost use lib.Seq.{sets};
-ghost use Rattle.octets.specs.Runs.{gets};
-ghost use Rattle.octets.specs.Numbers.{be, toBe};
+ghost use Rattle.octets.specs.Numbers.{toBe};
 ghost use Rattle.rules.specs.Applied.{filledBy};
 ghost use Rattle.rules.specs.Layout.{current, itemSize, recordSize};
-ghost use Rattle.wire.specs.Cells.{list};
+ghost use Rattle.wire.specs.MessageOutcome.{takenBy};
 ghost use Rattle.wire.specs.CancelRead.{cancelRead, flagsOf};
-ghost use Rattle.wire_judge.specs.Account.{Lies, WholeList, accountBy};
-ghost use Rattle.wire_cancel.specs.Taken.{cellsListed, CellsCounted, areaBy, requestBy, recorded, takenBy};
-use aper::Length;
-use aper::length_at;
+ghost use Rattle.wire.specs.declared.Message.the-variants.{CancelRequest};
+ghost use Rattle.wire_judge.specs.Account.{Lies, accountBy};
+ghost use Rattle.wire_cells.specs.Listed.{JudgedList};
+ghost use Rattle.wire_cancel.specs.Taken.{cellsListed, areaBy, requestBy, recorded};
 use octets::get16;
-use octets::get64;
 use octets::put64;
 use record_write::put_fields;
 use rules::Broadcasts;
-use rules::CellIdentity;
 use rules::Refusal;
 use rules::Request;
 use rules::Seconds;
@@ -33,43 +30,19 @@ use rules::kind::NO_AREA;
 use rules::kind::NOTIFIED;
 use rules::layout::ITEM;
 use rules::layout::RECORD;
+use wire::Message;
+use wire::Taking;
+use wire_cells::cell_at;
+use wire_cells::cell_count;
 use wire_judge::Judged;
 use wire_judge::Seen;
 use wire_judge::judge;
 
-// The transaction identifier and the length of the record, or why none was written.
-pub enum Taking {
-    Taken(u8, usize),
-    Untaken(Refusal),
-}
-
-// The padding behind a cell's 36 bits.
-const PADDING: u64 = 16;
-
 // ---- the record
 
-// How many cells a list has; none where there is no list.
-fn cell_count(cells: &[u8]) -> usize
-    requires { ⌜ WholeList (length (now cells)) false (list .parse (now cells)) ⌝ }
-    ensures { λ r. ⌜ CellsCounted (now (cells .entry)) r ⌝ }
-{
-    if cells.len() == 0 {
-        return 0;
-    }
-    get16(cells, 0) as usize + 1
-}
-
-// The PLMN, the cell's 36 bits and their padding are eight bytes.
-fn identity_at(s: &[u8], at: usize) -> CellIdentity
-    requires { ⌜ at + 8 ≤ length (now s) ⌝ }
-    ensures { λ r. ⌜ r .0 ≡ be (gets (now (s .entry)) at 8) / 16 ⌝ }
-{
-    CellIdentity(get64(s, at) / PADDING)
-}
-
-// Every cell of the list, as items behind the record's fields. The list was judged: of an entry its length alone is read again.
+// Every cell of the list, as items behind the record's fields.
 fn put_cells(buffer: &mut [u8], cells: &[u8])
-    requires { ⌜ WholeList (length (now cells)) false (list .parse (now cells)) ⌝ }
+    requires { ⌜ JudgedList CancelRequest (now cells) ⌝ }
     requires { ⌜ recordSize + itemSize current * length (cellsListed (now cells)) ≤ length (now buffer) ⌝ }
     ensures { λ _. ⌜ now (buffer .exit) ≡ sets (now (buffer .entry)) recordSize (flatMap (toBe (itemSize current)) (cellsListed (now (cells .entry)))) ⌝ }
 {
@@ -80,15 +53,11 @@ fn put_cells(buffer: &mut [u8], cells: &[u8])
     let mut at: usize = 2;
     let mut out = RECORD;
     while 0 < left {
-        match length_at(cells, at + 3) {
-            Length::NoLength => return,
-            Length::Of(n, start) => {
-                put64(buffer, out, identity_at(cells, start + 1).0);
-                out += ITEM;
-                at = start + n;
-                left -= 1;
-            }
-        }
+        let cell = cell_at(Message::CancelRequest, cells, at);
+        put64(buffer, out, cell.identity.0);
+        out += ITEM;
+        at = cell.end;
+        left -= 1;
     }
 }
 
@@ -126,9 +95,9 @@ fn request_of(seen: Seen, cells: usize) -> Request
 
 // 7, then 8, or the record at the start of the buffer; bytes behind it stay.
 fn put_record(elements: &[u8], seen: Seen, buffer: &mut [u8]) -> Writing
-    requires { ⌜ Lies (now elements) seen ⌝ }
+    requires { ⌜ Lies CancelRequest (now elements) seen ⌝ }
     requires { ⌜ seen .lacks ≡ false ⌝ }
-    ensures { λ r. ⌜ filledBy r (now (buffer .exit)) ≡ recorded (accountBy (now (elements .entry)) seen .says) (now (buffer .entry)) ⌝ }
+    ensures { λ r. ⌜ filledBy r (now (buffer .exit)) ≡ recorded (accountBy CancelRequest (now (elements .entry)) seen .says) (now (buffer .entry)) ⌝ }
 {
     if !(seen.all | seen.noted) {
         return Writing::Unwritten(Refusal::CancelsNothing);
@@ -136,7 +105,7 @@ fn put_record(elements: &[u8], seen: Seen, buffer: &mut [u8]) -> Writing
     let start = seen.start;
     let end = seen.end;
     let cells = &elements[start..end];
-    let n = cell_count(cells);
+    let n = cell_count(Message::CancelRequest, cells);
     if buffer.len() < RECORD + ITEM * n {
         return Writing::Unwritten(Refusal::ShortBuffer);
     }
@@ -150,7 +119,7 @@ fn put_record(elements: &[u8], seen: Seen, buffer: &mut [u8]) -> Writing
 pub fn read_cancel(message: &[u8], buffer: &mut [u8]) -> Taking
     ensures { λ r. ⌜ takenBy r (now (buffer .exit)) ≡ cancelRead (now (message .entry)) (now (buffer .entry)) ⌝ }
 {
-    match judge(message) {
+    match judge(Message::CancelRequest, message) {
         Judged::Unfit(refusal) => Taking::Untaken(refusal),
         Judged::Fine(start, seen) => match put_record(&message[start..], seen, buffer) {
             Writing::Unwritten(refusal) => Taking::Untaken(refusal),

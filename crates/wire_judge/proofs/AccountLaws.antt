@@ -4,13 +4,17 @@ use mathlib.Core.Bool.{Bool, true, false, _&&_, _||_}
 use mathlib.Core.List.{List, [], _∷_, flatMap}
 use Prim.Native.Nat.{ℕ}
 use lib.Dec.{eqb, ltb}
-use Rattle.rules.specs.Lists.{any, those, oneOf, above}
+use Rattle.rules.specs.Lists.{any, every, those, oneOf, above}
 use Rattle.rules.proofs.TestLaws.{or-assoc, and-assoc, or-false, and-with-true, by-test}
 use Rattle.formats.specs.Summary.{gathered}
 use Rattle.aper.specs.Elements.{Element}
-use Rattle.wire.specs.CancelRequest.{transactionId, requestedId, Contents, Elements}
-use Rattle.wire.specs.CancelRefusals.{rejecting, lacking, isKnown, knownIds, inOrder}
-use Rattle.wire.specs.CancelRead.{alsoSaid, said}
+use Rattle.wire.specs.Messages.{transactionId, requestedId, mandatory}
+use Rattle.wire.specs.MessageTree.{Contents, Elements}
+use Rattle.wire.specs.MessageRefusals.{rejecting, lacking, isKnown, knownIds, inOrder}
+use Rattle.wire.specs.MessageSaid.{alsoSaid, said}
+use Rattle.wire.specs.declared.Message.{Message}
+use Rattle.wire.specs.declared.Message.the-variants.{CancelRequest, CancelResponse, WriteReplaceResponse}
+use Rattle.wire_judge.specs.Readers.{hasAll}
 use Rattle.wire_judge.specs.Account.{Account, openAccount, entered, accounted}
 
 -- a mark that is kept is any element's
@@ -82,19 +86,26 @@ gathered-ordered a (e ∷ es) =
 
 -- ---- all of it
 
-pub record AccountOf (es : Elements) (a : Account) : Type 0 where
+pub record AccountOf (m : Message) (es : Elements) (a : Account) : Type 0 where
   pub rejects : a .rejects ≡ any rejecting es
   pub lacks : a .lacks ≡ any lacking es
-  pub in-order : (a .ordered && a .hasTransaction && a .hasRequested) ≡ inOrder (knownIds es)
+  pub in-order : (a .ordered && hasAll m (a .hasTransaction) (a .hasRequested)) ≡ inOrder m (knownIds es)
   pub says : a .says ≡ said es
 
-pub account-of : (es : Elements) → AccountOf es (gathered accounted openAccount es)
+-- those that must be among the ids
+has-all : (m : Message) (ids : List ℕ) → hasAll m (oneOf transactionId ids) (oneOf requestedId ids) ≡ every (λ id. oneOf id ids) (mandatory m)
+unfolding every
+has-all CancelRequest ids = rw (and-with-true (oneOf requestedId ids))
+has-all CancelResponse ids = sym (and-with-true (oneOf transactionId ids))
+has-all WriteReplaceResponse ids = sym (and-with-true (oneOf transactionId ids))
+
+pub account-of : (m : Message) (es : Elements) → AccountOf m es (gathered accounted openAccount es)
 unfolding openAccount inOrder said
-account-of es =
+account-of m es =
     record {
       rejects = gathered-mark (λ a. a .rejects) rejecting (λ a e. unfold accounted in refl) openAccount es;
       lacks = gathered-mark (λ a. a .lacks) lacking (λ a e. unfold accounted in refl) openAccount es;
       in-order =
-          rw (gathered-ordered openAccount es, gathered-mark (λ a. a .hasTransaction) (isThere transactionId) transaction-kept openAccount es, gathered-mark (λ a. a .hasRequested) (isThere requestedId) requested-kept openAccount es, is-among transactionId es, is-among requestedId es);
+          rw (gathered-ordered openAccount es, gathered-mark (λ a. a .hasTransaction) (isThere transactionId) transaction-kept openAccount es, gathered-mark (λ a. a .hasRequested) (isThere requestedId) requested-kept openAccount es, is-among transactionId es, is-among requestedId es, has-all m (knownIds es));
       says = gathered-says openAccount es;
     }

@@ -9,9 +9,9 @@ use lib.Dec.{eqb, ltb}
 use lib.ListN.{length, take, drop, drop-of-length-le, length-drop}
 use lib.Seq.{drop-cons, take-all}
 use borrow.Author.Tests.{lt-ltb, le-ltb, ltb-true, ltb-false, eq-eqb, ne-eqb, eqb-true}
-use Rattle.octets.specs.Runs.{gets}
+use Rattle.octets.specs.Runs.{gets, Bytes}
 use Rattle.octets.specs.Numbers.{be}
-use Rattle.octets.proofs.NumbersLaws.{be-run}
+use Rattle.octets.proofs.NumbersLaws.{be-run, be-gets-lt}
 use Rattle.rules.proofs.TestLaws.{by-test}
 use Rattle.formats.specs.Format.{Found, nothing, found, after, allOf, number, opaque, pair, behind, only, as-if, inside}
 use Rattle.formats.specs.Summary.{summed}
@@ -20,9 +20,12 @@ use Rattle.formats.proofs.ReadLaws.{number-cut, number-found}
 use Rattle.aper.specs.Elements.{openType, Element, twoBits, head, under, holding, plain}
 use Rattle.aper.specs.Readers.{ElementAt}
 use Rattle.aper.specs.declared.Step.the-variants.{One, NoElement}
+use Rattle.wire.specs.Messages.{choiceOf, codeOf}
 use Rattle.wire.specs.Frame.{Frame, codeSize, frameCriticality, frameUnder, frame, outer}
-use Rattle.wire_judge.specs.Readers.{ours, FramedAs}
-use Rattle.wire_judge.specs.declared.Framed.the-variants.{Cancelling, Another, NoFrame}
+use Rattle.wire.specs.declared.Message.{Message}
+use Rattle.wire.specs.declared.Message.the-variants.{CancelRequest, CancelResponse, WriteReplaceResponse}
+use Rattle.wire_judge.specs.Readers.{frameId, ours, FramedAs}
+use Rattle.wire_judge.specs.declared.Framed.the-variants.{This, Another, NoFrame}
 
 -- ---- behind an id: a criticality and an open type
 
@@ -79,11 +82,11 @@ frame-behind-it l choice code id s r e k = rw (e, k) (first (twoBits .parse r))
 
 -- ---- what an element that is the frame says
 
-module _ (l : List ℕ) (at choice code : ℕ) (framed : outer .parse l ≡ after (plain .parse (drop at l)) (framedAs choice code)) where
-  answers : (x : Found (Frame (List ℕ))) → outer .parse l ≡ x → allOf (summed ours x) [] ≡ allOf (summed ours (outer .parse l)) []
-  answers x e = ap (λ (y : Found (Frame (List ℕ))). allOf (summed ours y) []) (sym e)
+module _ (m : Message) (l : List ℕ) (at choice code : ℕ) (framed : outer .parse l ≡ after (plain .parse (drop at l)) (framedAs choice code)) where
+  answers : (x : Found (Frame (List ℕ))) → outer .parse l ≡ x → allOf (summed (ours m) x) [] ≡ allOf (summed (ours m) (outer .parse l)) []
+  answers x e = ap (λ (y : Found (Frame (List ℕ))). allOf (summed (ours m) y) []) (sym e)
 
-  pub frame-none : ElementAt l at NoElement → FramedAs l NoFrame
+  pub frame-none : ElementAt l at NoElement → FramedAs m l NoFrame
   frame-none read = record { says = answers nothing (framed ∙ ap (λ (x : Found (Element (List ℕ))). after x (framedAs choice code)) (sym (read .says))); lies = tt }
 
   module _ (id criticality start end : ℕ) (read : ElementAt l at (One id criticality start end)) where
@@ -91,14 +94,14 @@ module _ (l : List ℕ) (at choice code : ℕ) (framed : outer .parse l ≡ afte
     unfolding framedAs
     this = framed ∙ ap (λ (x : Found (Element (List ℕ))). after x (framedAs choice code)) (sym (read .says))
 
-    pub frame-criticality : 3 ≤ criticality → FramedAs l NoFrame
+    pub frame-criticality : 3 ≤ criticality → FramedAs m l NoFrame
     frame-criticality h = record { says = answers nothing (this ∙ rw (le-ltb criticality 3 h)); lies = tt }
 
     module _ (small : criticality < 3) where
       there : outer .parse l ≡ found (frameBy choice code criticality (take (end - start) (drop start l))) (drop end l)
       there = this ∙ rw (lt-ltb criticality 3 small)
 
-      pub frame-behind : (end ≡ length l → ⊥) → FramedAs l NoFrame
+      pub frame-behind : (end ≡ length l → ⊥) → FramedAs m l NoFrame
       frame-behind other =
           let more : end < length l = omega (arith, other, read .lies .1) in
           record { says = rw (drop-cons l end 0 more) at (answers (found (frameBy choice code criticality (take (end - start) (drop start l))) (drop end l)) there); lies = tt }
@@ -110,24 +113,24 @@ module _ (l : List ℕ) (at choice code : ℕ) (framed : outer .parse l ≡ afte
             let rest : length (drop start l) ≤ end - start = rw length-drop (omega arith) in
             there ∙ rw (drop-of-length-le l all, take-all (end - start) (drop start l) rest)
 
-        pub frame-ours : choice ≡ 0 → code ≡ 21 → FramedAs l (Cancelling start)
+        pub frame-ours : choice ≡ choiceOf m → code ≡ codeOf m → FramedAs m l (This start)
         frame-ours p q =
             record {
-              says = rw (eq-eqb choice 0 p, eq-eqb code 21 q) at (answers (found (frameBy choice code criticality (drop start l)) []) whole);
+              says = rw (eq-eqb choice (choiceOf m) p, eq-eqb code (codeOf m) q) at (answers (found (frameBy choice code criticality (drop start l)) []) whole);
               lies = omega (arith, read .lies .2);
             }
 
-        pub frame-other : (eqb choice 0 && eqb code 21) ≡ false → FramedAs l Another
+        pub frame-other : (eqb choice (choiceOf m) && eqb code (codeOf m)) ≡ false → FramedAs m l Another
         frame-other t = record { says = rw t at (answers (found (frameBy choice code criticality (drop start l)) []) whole); lies = tt }
 
 -- ---- the choice
 
 module _ (l : List ℕ) where
-  absent : outer .parse l ≡ nothing → FramedAs l NoFrame
-  absent e = record { says = ap (λ (y : Found (Frame (List ℕ))). allOf (summed ours y) []) (sym e); lies = tt }
+  absent : (m : Message) → outer .parse l ≡ nothing → FramedAs m l NoFrame
+  absent m e = record { says = ap (λ (y : Found (Frame (List ℕ))). allOf (summed (ours m) y) []) (sym e); lies = tt }
 
-  pub frame-empty : length l ≡ 0 → FramedAs l NoFrame
-  frame-empty h = absent none
+  pub frame-empty : (m : Message) → length l ≡ 0 → FramedAs m l NoFrame
+  frame-empty m h = absent m none
     where
       none : outer .parse l ≡ nothing
       none = unfold frame behind twoBits as-if only in rw (number-cut l 0 1 1 refl (omega arith) (omega arith))
@@ -136,8 +139,8 @@ module _ (l : List ℕ) where
     byte-found : number 1 .parse l ≡ found b (drop 1 l)
     byte-found = number-found l 0 1 1 refl some ∙ ap (λ (n : ℕ). found n (drop 1 l)) (sym here)
 
-    pub frame-padding : (b % 64 ≡ 0 → ⊥) → FramedAs l NoFrame
-    frame-padding other = absent none
+    pub frame-padding : (m : Message) → (b % 64 ≡ 0 → ⊥) → FramedAs m l NoFrame
+    frame-padding m other = absent m none
       where
         none : outer .parse l ≡ nothing
         none = unfold frame behind twoBits as-if only in rw (byte-found, ne-eqb (b % 64) 0 other)
@@ -204,17 +207,32 @@ element-id l at id criticality start end k read = by-test (ltb (length l) (at + 
         same (be (gets l at 2)) (twoBits .parse (drop (at + 2) l)) (take (end - start) (drop start l)) (drop end l)
         (sym (element-behind l at (be (gets l at 2)) (drop (at + 2) l) (number-found l at 2 (at + 2) refl h)) ∙ sym (read .says))
 
-module _ (l : List ℕ) (b id criticality start end : ℕ) (some : 1 ≤ length l) (here : b ≡ be (gets l 0 1)) (padded : b % 64 ≡ 0) (read : ElementAt l 0 (One id criticality start end)) where
+-- none of our messages is a choice-extension
+pub no-extension : (m : Message) (code : ℕ) → (eqb 3 (choiceOf m) && eqb code (codeOf m)) ≡ false
+no-extension CancelRequest code = refl
+no-extension CancelResponse code = refl
+no-extension WriteReplaceResponse code = refl
+
+-- the parts of a message's id
+id-parts : (m : Message) (b code : ℕ) → b % 64 ≡ 0 → code < 256 → b * 256 + code ≡ frameId m → (b / 64 ≡ choiceOf m) × (code ≡ codeOf m)
+id-parts CancelRequest b code p h e = (omega arith, omega arith)
+id-parts CancelResponse b code p h e = (omega arith, omega arith)
+id-parts WriteReplaceResponse b code p h e = (omega arith, omega arith)
+
+parts-id : (m : Message) (b code : ℕ) → b % 64 ≡ 0 → b / 64 ≡ choiceOf m → code ≡ codeOf m → b * 256 + code ≡ frameId m
+parts-id m b code p q r = omega arith
+
+module _ (m : Message) (l : List ℕ) (bytes : Bytes l) (b id criticality start end : ℕ) (some : 1 ≤ length l) (here : b ≡ be (gets l 0 1)) (padded : b % 64 ≡ 0) (read : ElementAt l 0 (One id criticality start end)) where
   two : id ≡ b * 256 + be (gets l 1 1)
   two =
       let all : be (gets l 0 1) * 256 + be (gets l 1 1) ≡ be (gets l 0 2) = be-run 1 1 l 0 1 refl in
       omega (arith, element-id l 0 id criticality start end (omega arith) read, all)
 
-  pub choice-code : id ≡ 21 → (b / 64 ≡ 0) × (be (gets l 1 1) ≡ 21)
-  choice-code e = (omega (arith, two), omega (arith, two))
+  pub choice-code : id ≡ frameId m → (b / 64 ≡ choiceOf m) × (be (gets l 1 1) ≡ codeOf m)
+  choice-code e = id-parts m b (be (gets l 1 1)) padded (be-gets-lt 1 1 l bytes) (sym two ∙ e)
 
-  pub other-code : (id ≡ 21 → ⊥) → (eqb (b / 64) 0 && eqb (be (gets l 1 1)) 21) ≡ false
+  pub other-code : (id ≡ frameId m → ⊥) → (eqb (b / 64) (choiceOf m) && eqb (be (gets l 1 1)) (codeOf m)) ≡ false
   other-code other =
-      by-test (eqb (b / 64) 0)
-      (λ t. rw t (ne-eqb (be (gets l 1 1)) 21 (λ e. other (omega (arith, two, eqb-true (b / 64) 0 t)))))
+      by-test (eqb (b / 64) (choiceOf m))
+      (λ t. rw t (ne-eqb (be (gets l 1 1)) (codeOf m) (λ e. other (two ∙ parts-id m b (be (gets l 1 1)) padded (eqb-true (b / 64) (choiceOf m) t) e))))
       (λ t. rw t)

@@ -14,14 +14,15 @@ use Rattle.formats.specs.Format.{Found, nothing, found, after, allOf}
 use Rattle.formats.specs.Summary.{summed, gathered}
 use Rattle.formats.proofs.SummaryLaws.{nothing-found, found-value, summed-all, summed-nothing}
 use Rattle.wire.specs.Frame.{Frame, outer}
-use Rattle.wire.specs.CancelRequest.{Elements, value, request}
-use Rattle.wire.specs.CancelRefusals.{isCancel, cancelIn, isThis, whole, wellEncoded, valueIn, messageElements, rejecting, lacking, knownIds, inOrder, complete, messageVerdict}
-use Rattle.wire.specs.CancelRead.{said, saidIn}
+use Rattle.wire.specs.MessageTree.{Elements, value, message}
+use Rattle.wire.specs.MessageRefusals.{isOf, framesOf, isThis, whole, wellEncoded, valueIn, messageElements, rejecting, lacking, knownIds, inOrder, complete, messageVerdict}
+use Rattle.wire.specs.MessageSaid.{said, saidIn}
 use Rattle.wire.proofs.FrameFormat.{withValue, framedInto, frame-into}
+use Rattle.wire.specs.declared.Message.{Message}
 use Rattle.wire_judge.specs.Account.{Account, openAccount, accounted, accountBy}
-use Rattle.wire_judge.specs.Readers.{ours, FramedAs, WalkedOver, FitMessage}
+use Rattle.wire_judge.specs.Readers.{ours, FramedAs, WalkedOver, hasAll, FitMessage}
 use Rattle.wire_judge.specs.declared.Seen.{Seen}
-use Rattle.wire_judge.specs.declared.Framed.the-variants.{Cancelling, Another, NoFrame}
+use Rattle.wire_judge.specs.declared.Framed.the-variants.{This, Another, NoFrame}
 use Rattle.wire_judge.specs.declared.Walk.{Walk}
 use Rattle.wire_judge.specs.declared.Walk.the-variants.{Whole, Broken}
 use Rattle.wire_judge.proofs.AccountLaws.{account-of}
@@ -29,176 +30,177 @@ use Rattle.wire_judge.proofs.AccountLaws.{account-of}
 abbrev Framing : Type 0
 Framing = Found (Frame (List ℕ))
 
-abbrev Into : Framing → Found (Frame Elements)
-Into x = framedInto value x
+abbrev Into : Message → Framing → Found (Frame Elements)
+Into m x = framedInto (value m) x
 
--- ---- no frame, or another message's
+module _ (m : Message) where
+  -- ---- no frame, or another message's
 
-behind-end : (m : Frame (List ℕ)) (c : ℕ) (cs : List ℕ) (y : Found Elements) → whole (after (allOf y (c ∷ cs)) (λ v s. found (withValue value m v) s)) ≡ false
-behind-end m c cs nothing = refl
-behind-end m c cs (found v []) = refl
-behind-end m c cs (found v (d ∷ ds)) = refl
+  behind-end : (g : Frame (List ℕ)) (c : ℕ) (cs : List ℕ) (y : Found Elements) → whole (after (allOf y (c ∷ cs)) (λ v s. found (withValue (value m) g v) s)) ≡ false
+  behind-end g c cs nothing = refl
+  behind-end g c cs (found v []) = refl
+  behind-end g c cs (found v (d ∷ ds)) = refl
 
-not-whole : (x : Framing) → nothing ≡ allOf (summed ours x) [] → (whole x ≡ false) × (whole (Into x) ≡ false)
-not-whole nothing e = (refl, refl)
-not-whole (found m []) e = absurd (nothing-found (ours m) [] e)
-not-whole (found m (c ∷ cs)) e = (refl, behind-end m c cs (value .parse (m .value)))
+  not-whole : (x : Framing) → nothing ≡ allOf (summed (ours m) x) [] → (whole x ≡ false) × (whole (Into m x) ≡ false)
+  not-whole nothing e = (refl, refl)
+  not-whole (found g []) e = absurd (nothing-found (ours m g) [] e)
+  not-whole (found g (c ∷ cs)) e = (refl, behind-end g c cs (value m .parse (g .value)))
 
-no-bytes : (l : List ℕ) → [] ≡ l ∷ [] → ⊥
-no-bytes l e = let z : _≡_ {A = ℕ} 0 1 = cc in omega arith
+  no-bytes : (l : List ℕ) → [] ≡ l ∷ [] → ⊥
+  no-bytes l e = let z : _≡_ {A = ℕ} 0 1 = cc in omega arith
 
-others : (x : Framing) → found [] [] ≡ allOf (summed ours x) [] → (whole x ≡ true) × (cancelIn x ≡ false)
-others nothing e = absurd (nothing-found [] [] (sym e))
-others (found m []) e =
-    by-test (isCancel m)
-    (λ t. absurd (no-bytes (m .value) (found-value [] (ours m) [] [] e ∙ ap (λ (b : Bool). cond b (m .value ∷ []) []) t)))
-    (λ t. (refl, t))
-others (found m (c ∷ cs)) e = absurd (nothing-found [] [] (sym e))
+  others : (x : Framing) → found [] [] ≡ allOf (summed (ours m) x) [] → (whole x ≡ true) × (framesOf m x ≡ false)
+  others nothing e = absurd (nothing-found [] [] (sym e))
+  others (found g []) e =
+      by-test (isOf m g)
+      (λ t. absurd (no-bytes (g .value) (found-value [] (ours m g) [] [] e ∙ ap (λ (b : Bool). cond b (g .value ∷ []) []) t)))
+      (λ t. (refl, t))
+  others (found g (c ∷ cs)) e = absurd (nothing-found [] [] (sym e))
 
--- ---- a cancel request's frame, around these bytes
+  -- ---- this message's frame, around these bytes
 
-record Ours (x : Framing) (l : List ℕ) : Type 0 where
-  this : cancelIn x ≡ true
-  broken : allOf (value .parse l) [] ≡ nothing → whole (Into x) ≡ false
-  fits : (es : Elements) → value .parse l ≡ found es [] → (whole (Into x) ≡ true) × (valueIn (Into x) ≡ es)
+  record Ours (x : Framing) (l : List ℕ) : Type 0 where
+    this : framesOf m x ≡ true
+    broken : allOf (value m .parse l) [] ≡ nothing → whole (Into m x) ≡ false
+    fits : (es : Elements) → value m .parse l ≡ found es [] → (whole (Into m x) ≡ true) × (valueIn (Into m x) ≡ es)
 
-same-bytes : (m : Frame (List ℕ)) (l : List ℕ) → l ∷ [] ≡ ours m → (isCancel m ≡ true) × (m .value ≡ l)
-same-bytes m l e =
-    by-test (isCancel m)
-    (λ t. (t, ap first (sym (e ∙ ap (λ (b : Bool). cond b (m .value ∷ []) []) t))))
-    (λ t. absurd (no-bytes l (sym (e ∙ ap (λ (b : Bool). cond b (m .value ∷ []) []) t))))
-  where
-    first : List (List ℕ) → List ℕ
-    first [] = []
-    first (s ∷ ss) = s
-
-framed-ours : (x : Framing) (l : List ℕ) → found (l ∷ []) [] ≡ allOf (summed ours x) [] → Ours x l
-framed-ours nothing l e = absurd (nothing-found (l ∷ []) [] (sym e))
-framed-ours (found m (c ∷ cs)) l e = absurd (nothing-found (l ∷ []) [] (sym e))
-framed-ours (found m []) l e =
-    let same = same-bytes m l (found-value (l ∷ []) (ours m) [] [] e) in
-    record {
-      this = same .0;
-      broken = λ n. ap (λ (y : Found Elements). whole (after y (λ v s. found (withValue value m v) s))) (ap (λ (k : List ℕ). allOf (value .parse k) []) (same .1) ∙ n);
-      fits = λ es p.
-          let there : value .parse (m .value) ≡ found es [] = ap (value .parse) (same .1) ∙ p in
-          (ap (λ (y : Found Elements). whole (after (allOf y []) (λ v s. found (withValue value m v) s))) there, ap (λ (y : Found Elements). valueIn (after (allOf y []) (λ v s. found (withValue value m v) s))) there);
-    }
-
--- ---- the verdict
-
--- all that stands behind the frame is lent on
-lent : (b : List ℕ) (start : ℕ) (r : Walk) → WalkedOver (take (length b - start) (drop start b)) r → WalkedOver (drop start b) r
-lent b start r w =
-    let rest : length (drop start b) ≤ length b - start = rw length-drop (omega arith) in
-    subst (λ (l : List ℕ). WalkedOver l r) (take-all (length b - start) (drop start b) rest) w
-
-module _ (b : List ℕ) where
-  bad : wellEncoded b ≡ false → messageVerdict b ≡ Refused BadEncoding
-  unfolding messageVerdict
-  bad e = rw e
-
-  into : request .parse b ≡ Into (outer .parse b)
-  into = frame-into value b
-
-  pub unframed : FramedAs b NoFrame → messageVerdict b ≡ Refused BadEncoding
-  unframed f = bad (neither-whole (not-whole (outer .parse b) (f .says)))
+  same-bytes : (g : Frame (List ℕ)) (l : List ℕ) → l ∷ [] ≡ ours m g → (isOf m g ≡ true) × (g .value ≡ l)
+  same-bytes g l e =
+      by-test (isOf m g)
+      (λ t. (t, ap first (sym (e ∙ ap (λ (b : Bool). cond b (g .value ∷ []) []) t))))
+      (λ t. absurd (no-bytes l (sym (e ∙ ap (λ (b : Bool). cond b (g .value ∷ []) []) t))))
     where
-      neither-whole : (whole (outer .parse b) ≡ false) × (whole (Into (outer .parse b)) ≡ false) → wellEncoded b ≡ false
-      neither-whole h = unfold wellEncoded in by-test (isThis b) (λ t. rw (t, into) (h .1)) (λ t. rw t (h .0))
+      first : List (List ℕ) → List ℕ
+      first [] = []
+      first (s ∷ ss) = s
 
-  pub another : FramedAs b Another → messageVerdict b ≡ Refused OtherMessage
-  unfolding messageVerdict wellEncoded isThis
-  another f = let o = others (outer .parse b) (f .says) in rw (o .1, o .0)
+  framed-ours : (x : Framing) (l : List ℕ) → found (l ∷ []) [] ≡ allOf (summed (ours m) x) [] → Ours x l
+  framed-ours nothing l e = absurd (nothing-found (l ∷ []) [] (sym e))
+  framed-ours (found g (c ∷ cs)) l e = absurd (nothing-found (l ∷ []) [] (sym e))
+  framed-ours (found g []) l e =
+      let same = same-bytes g l (found-value (l ∷ []) (ours m g) [] [] e) in
+      record {
+        this = same .0;
+        broken = λ n. ap (λ (y : Found Elements). whole (after y (λ v s. found (withValue (value m) g v) s))) (ap (λ (k : List ℕ). allOf (value m .parse k) []) (same .1) ∙ n);
+        fits = λ es p.
+            let there : value m .parse (g .value) ≡ found es [] = ap (value m .parse) (same .1) ∙ p in
+            (ap (λ (y : Found Elements). whole (after (allOf y []) (λ v s. found (withValue (value m) g v) s))) there, ap (λ (y : Found Elements). valueIn (after (allOf y []) (λ v s. found (withValue (value m) g v) s))) there);
+      }
 
-  module _ (start : ℕ) (f : FramedAs b (Cancelling start)) where
-    own : Ours (outer .parse b) (drop start b)
-    own = framed-ours (outer .parse b) (drop start b) (f .says)
+  -- ---- the verdict
 
-    is-this : isThis b ≡ true
-    unfolding isThis
-    is-this = own .this
+  -- all that stands behind the frame is lent on
+  lent : (b : List ℕ) (start : ℕ) (r : Walk) → WalkedOver m (take (length b - start) (drop start b)) r → WalkedOver m (drop start b) r
+  lent b start r w =
+      let rest : length (drop start b) ≤ length b - start = rw length-drop (omega arith) in
+      subst (λ (l : List ℕ). WalkedOver m l r) (take-all (length b - start) (drop start b) rest) w
 
-    pub unwalked : WalkedOver (take (length b - start) (drop start b)) Broken → messageVerdict b ≡ Refused BadEncoding
-    unwalked lent-on =
-        let w = lent b start Broken lent-on in
-        bad (broken-whole (own .broken (summed-nothing (gathered accounted openAccount) (allOf (value .parse (drop start b)) []) (sym (summed-all (gathered accounted openAccount) (value .parse (drop start b)) []) ∙ sym (w .says)))))
+  module _ (b : List ℕ) where
+    bad : wellEncoded m b ≡ false → messageVerdict m b ≡ Refused BadEncoding
+    unfolding messageVerdict
+    bad e = rw e
+
+    into : message m .parse b ≡ Into m (outer .parse b)
+    into = frame-into (value m) b
+
+    pub unframed : FramedAs m b NoFrame → messageVerdict m b ≡ Refused BadEncoding
+    unframed f = bad (neither-whole (not-whole (outer .parse b) (f .says)))
       where
-        broken-whole : whole (Into (outer .parse b)) ≡ false → wellEncoded b ≡ false
-        broken-whole h = unfold wellEncoded in rw (is-this, into) h
+        neither-whole : (whole (outer .parse b) ≡ false) × (whole (Into m (outer .parse b)) ≡ false) → wellEncoded m b ≡ false
+        neither-whole h = unfold wellEncoded in by-test (isThis m b) (λ t. rw (t, into) (h .1)) (λ t. rw t (h .0))
 
-    module _ (s : Seen) (lent-on : WalkedOver (take (length b - start) (drop start b)) (Whole s)) where
-      w : WalkedOver (drop start b) (Whole s)
-      w = lent b start (Whole s) lent-on
+    pub another : FramedAs m b Another → messageVerdict m b ≡ Refused OtherMessage
+    unfolding messageVerdict wellEncoded isThis
+    another f = let o = others (outer .parse b) (f .says) in rw (o .1, o .0)
 
-      -- a message that was walked over is well encoded, and what was seen is the account of its elements
-      record Walked (es : Elements) : Type 0 where
-        good : wellEncoded b ≡ true
-        elements : messageElements b ≡ es
-        account : accountBy (drop start b) s ≡ gathered accounted openAccount es
+    module _ (start : ℕ) (f : FramedAs m b (This start)) where
+      own : Ours (outer .parse b) (drop start b)
+      own = framed-ours (outer .parse b) (drop start b) (f .says)
 
-      walked : (es : Elements) → value .parse (drop start b) ≡ found es [] → accountBy (drop start b) s ≡ gathered accounted openAccount es → Walked es
-      unfolding wellEncoded messageElements
-      walked es p a = let h = own .fits es p in record { good = rw (is-this, into) (h .0); elements = rw into (h .1); account = a }
+      is-this : isThis m b ≡ true
+      unfolding isThis
+      is-this = own .this
 
-      by-elements : {P : Type 0} → ((es : Elements) → Walked es → P) → P
-      by-elements {P} k = go (value .parse (drop start b)) refl (w .says)
+      pub unwalked : WalkedOver m (take (length b - start) (drop start b)) Broken → messageVerdict m b ≡ Refused BadEncoding
+      unwalked lent-on =
+          let w = lent b start Broken lent-on in
+          bad (broken-whole (own .broken (summed-nothing (gathered accounted openAccount) (allOf (value m .parse (drop start b)) []) (sym (summed-all (gathered accounted openAccount) (value m .parse (drop start b)) []) ∙ sym (w .says)))))
         where
-          go : (y : Found Elements) → value .parse (drop start b) ≡ y → found (accountBy (drop start b) s) [] ≡ allOf (summed (gathered accounted openAccount) y) [] → P
-          go nothing p e = absurd (nothing-found (accountBy (drop start b) s) [] (sym e))
-          go (found es []) p e = k es (walked es p (found-value (accountBy (drop start b) s) (gathered accounted openAccount es) [] [] e))
-          go (found es (c ∷ cs)) p e = absurd (nothing-found (accountBy (drop start b) s) [] (sym e))
+          broken-whole : whole (Into m (outer .parse b)) ≡ false → wellEncoded m b ≡ false
+          broken-whole h = unfold wellEncoded in rw (is-this, into) h
 
-      -- the account is what code keeps
-      module _ (es : Elements) (h : Walked es) where
-        rejects : s .rejects ≡ any rejecting (messageElements b)
-        unfolding accountBy
-        rejects = ap (λ (a : Account). a .rejects) (h .account) ∙ account-of es .rejects ∙ ap (any rejecting) (sym (h .elements))
+      module _ (s : Seen) (lent-on : WalkedOver m (take (length b - start) (drop start b)) (Whole s)) where
+        w : WalkedOver m (drop start b) (Whole s)
+        w = lent b start (Whole s) lent-on
 
-        lacks : s .lacks ≡ any lacking (messageElements b)
-        unfolding accountBy
-        lacks = ap (λ (a : Account). a .lacks) (h .account) ∙ account-of es .lacks ∙ ap (any lacking) (sym (h .elements))
+        -- a message that was walked over is well encoded, and what was seen is the account of its elements
+        record Walked (es : Elements) : Type 0 where
+          good : wellEncoded m b ≡ true
+          elements : messageElements m b ≡ es
+          account : accountBy m (drop start b) s ≡ gathered accounted openAccount es
 
-        in-order : (s .ordered && s .identified && s .counted) ≡ inOrder (knownIds (messageElements b))
-        unfolding accountBy
-        in-order =
-            ap (λ (a : Account). a .ordered && a .hasTransaction && a .hasRequested) (h .account) ∙ account-of es .in-order ∙ ap (λ (xs : Elements). inOrder (knownIds xs)) (sym (h .elements))
+        walked : (es : Elements) → value m .parse (drop start b) ≡ found es [] → accountBy m (drop start b) s ≡ gathered accounted openAccount es → Walked es
+        unfolding wellEncoded messageElements
+        walked es p a = let h = own .fits es p in record { good = rw (is-this, into) (h .0); elements = rw into (h .1); account = a }
 
-        says : saidIn b ≡ accountBy (drop start b) s .says
-        says = ap said (h .elements) ∙ sym (ap (λ (a : Account). a .says) (h .account) ∙ account-of es .says)
+        by-elements : {P : Type 0} → ((es : Elements) → Walked es → P) → P
+        by-elements {P} k = go (value m .parse (drop start b)) refl (w .says)
+          where
+            go : (y : Found Elements) → value m .parse (drop start b) ≡ y → found (accountBy m (drop start b) s) [] ≡ allOf (summed (gathered accounted openAccount) y) [] → P
+            go nothing p e = absurd (nothing-found (accountBy m (drop start b) s) [] (sym e))
+            go (found es []) p e = k es (walked es p (found-value (accountBy m (drop start b) s) (gathered accounted openAccount es) [] [] e))
+            go (found es (c ∷ cs)) p e = absurd (nothing-found (accountBy m (drop start b) s) [] (sym e))
 
-        test : (((s .ordered && s .identified) && s .counted) && not (s .lacks)) ≡ complete (messageElements b)
-        unfolding complete
-        test = ap (λ (x : Bool). x && not (s .lacks)) in-order ∙ ap (λ (x : Bool). inOrder (knownIds (messageElements b)) && not x) lacks
+        -- the account is what code keeps
+        module _ (es : Elements) (h : Walked es) where
+          rejects : s .rejects ≡ any rejecting (messageElements m b)
+          unfolding accountBy
+          rejects = ap (λ (a : Account). a .rejects) (h .account) ∙ account-of m es .rejects ∙ ap (any rejecting) (sym (h .elements))
 
-        rejected-here : s .rejects ≡ true → messageVerdict b ≡ Refused UnknownElement
-        unfolding messageVerdict
-        rejected-here t = rw (h .good, is-this, sym rejects ∙ t)
+          lacks : s .lacks ≡ any lacking (messageElements m b)
+          unfolding accountBy
+          lacks = ap (λ (a : Account). a .lacks) (h .account) ∙ account-of m es .lacks ∙ ap (any lacking) (sym (h .elements))
 
-        wrong-here : s .rejects ≡ false → (((s .ordered && s .identified) && s .counted) && not (s .lacks)) ≡ false → messageVerdict b ≡ Refused ElementsWrong
-        unfolding messageVerdict
-        wrong-here r t = rw (h .good, is-this, sym rejects ∙ r, sym test ∙ t)
+          in-order : (s .ordered && hasAll m (s .identified) (s .counted)) ≡ inOrder m (knownIds (messageElements m b))
+          unfolding accountBy
+          in-order =
+              ap (λ (a : Account). a .ordered && hasAll m (a .hasTransaction) (a .hasRequested)) (h .account) ∙ account-of m es .in-order ∙ ap (λ (xs : Elements). inOrder m (knownIds xs)) (sym (h .elements))
 
-        fine-here : s .rejects ≡ false → (((s .ordered && s .identified) && s .counted) && not (s .lacks)) ≡ true → messageVerdict b ≡ Accepted
-        unfolding messageVerdict
-        fine-here r t = rw (h .good, is-this, sym rejects ∙ r, sym test ∙ t)
+          says : saidIn m b ≡ accountBy m (drop start b) s .says
+          says = ap said (h .elements) ∙ sym (ap (λ (a : Account). a .says) (h .account) ∙ account-of m es .says)
 
-      pub rejected : s .rejects ≡ true → messageVerdict b ≡ Refused UnknownElement
-      rejected t = by-elements (λ es h. rejected-here es h t)
+          test : ((s .ordered && hasAll m (s .identified) (s .counted)) && not (s .lacks)) ≡ complete m (messageElements m b)
+          unfolding complete
+          test = ap (λ (x : Bool). x && not (s .lacks)) in-order ∙ ap (λ (x : Bool). inOrder m (knownIds (messageElements m b)) && not x) lacks
 
-      pub wrong : s .rejects ≡ false → (((s .ordered && s .identified) && s .counted) && not (s .lacks)) ≡ false → messageVerdict b ≡ Refused ElementsWrong
-      wrong r t = by-elements (λ es h. wrong-here es h r t)
+          rejected-here : s .rejects ≡ true → messageVerdict m b ≡ Refused UnknownElement
+          unfolding messageVerdict
+          rejected-here t = rw (h .good, is-this, sym rejects ∙ t)
 
-      not-true : (x : Bool) → not x ≡ true → x ≡ false
-      not-true true e = absurd (false≢true e)
-      not-true false e = refl
+          wrong-here : s .rejects ≡ false → ((s .ordered && hasAll m (s .identified) (s .counted)) && not (s .lacks)) ≡ false → messageVerdict m b ≡ Refused ElementsWrong
+          unfolding messageVerdict
+          wrong-here r t = rw (h .good, is-this, sym rejects ∙ r, sym test ∙ t)
 
-      pub fine : s .rejects ≡ false → (((s .ordered && s .identified) && s .counted) && not (s .lacks)) ≡ true → FitMessage b start s
-      fine r t =
-          record {
-            accepted = by-elements (λ es h. fine-here es h r t);
-            says = by-elements (λ es h. says es h);
-            begins = f .lies;
-            lies = w .lies;
-            whole = not-true (s .lacks) (both ((s .ordered && s .identified) && s .counted) (not (s .lacks)) t .1);
-          }
+          fine-here : s .rejects ≡ false → ((s .ordered && hasAll m (s .identified) (s .counted)) && not (s .lacks)) ≡ true → messageVerdict m b ≡ Accepted
+          unfolding messageVerdict
+          fine-here r t = rw (h .good, is-this, sym rejects ∙ r, sym test ∙ t)
+
+        pub rejected : s .rejects ≡ true → messageVerdict m b ≡ Refused UnknownElement
+        rejected t = by-elements (λ es h. rejected-here es h t)
+
+        pub wrong : s .rejects ≡ false → ((s .ordered && hasAll m (s .identified) (s .counted)) && not (s .lacks)) ≡ false → messageVerdict m b ≡ Refused ElementsWrong
+        wrong r t = by-elements (λ es h. wrong-here es h r t)
+
+        not-true : (x : Bool) → not x ≡ true → x ≡ false
+        not-true true e = absurd (false≢true e)
+        not-true false e = refl
+
+        pub fine : s .rejects ≡ false → ((s .ordered && hasAll m (s .identified) (s .counted)) && not (s .lacks)) ≡ true → FitMessage m b start s
+        fine r t =
+            record {
+              accepted = by-elements (λ es h. fine-here es h r t);
+              says = by-elements (λ es h. says es h);
+              begins = f .lies;
+              lies = w .lies;
+              whole = not-true (s .lacks) (both (s .ordered && hasAll m (s .identified) (s .counted)) (not (s .lacks)) t .1);
+            }

@@ -11,25 +11,10 @@ use Rattle.formats.specs.Bits.{bits}
 use Rattle.formats.proofs.SummaryLaws.{nothing-found, found-value}
 use Rattle.wire.specs.Frame.{blankFields}
 use Rattle.wire.specs.Cells.{list}
-use Rattle.wire.specs.CancelRequest.{transactionId, requestedId, cellsId, cancelAllId, notificationId, note, Name, theTransaction, theRequested, theCells, theIndicator, theNotification, unknown, nameOf, known, Contents, transaction, requested, cells, cancelAll, notification, other, transactionFields, contentsBy, contents}
-
--- ---- what holds of each name holds of an id's
-
-name-by : (P : Name → Type 0) (id : ℕ) → (id ≡ transactionId → P theTransaction) → (id ≡ requestedId → P theRequested) → (id ≡ cellsId → P theCells)
-    → (id ≡ cancelAllId → P theIndicator) → (id ≡ notificationId → P theNotification) → (known id ≡ false → P unknown) → P (nameOf id)
-unfolding known
-name-by P id a b c d e f =
-    by-test (eqb id transactionId)
-    (λ t. rw t (a (eqb-true id transactionId t)))
-    (λ t. by-test (eqb id requestedId)
-    (λ u. rw (t, u) (b (eqb-true id requestedId u)))
-    (λ u. by-test (eqb id cellsId)
-    (λ v. rw (t, u, v) (c (eqb-true id cellsId v)))
-    (λ v. by-test (eqb id cancelAllId)
-    (λ w. rw (t, u, v, w) (d (eqb-true id cancelAllId w)))
-    (λ w. by-test (eqb id notificationId)
-    (λ x. rw (t, u, v, w, x) (e (eqb-true id notificationId x)))
-    (λ x. rw (t, u, v, w, x) (f (rw (t, u, v, w, x))))))))
+use Rattle.wire.specs.Messages.{transactionId, requestedId, cellsId, cancelAllId, notificationId, Name, theTransaction, theRequested, theCells, theIndicator, theNotification, unknown, isNamed, furtherName, nameOf, known}
+use Rattle.wire.specs.MessageTree.{note, Contents, transaction, requested, cells, cancelAll, notification, other, transactionFields, contentsBy, contents}
+use Rattle.wire.specs.declared.Message.{Message}
+use Rattle.wire.specs.declared.Message.the-variants.{CancelRequest, CancelResponse, WriteReplaceResponse}
 
 -- the name that contents have
 abbrev pub nameIn : Contents → Name
@@ -44,27 +29,50 @@ made : {A : Type 0} (name : Name) (to : A → Contents) → ((a : A) → nameIn 
 made name to is nothing y r e = absurd (nothing-found y r e)
 made name to is (found a s) y r e = ap nameIn (sym (found-value (to a) y s r e)) ∙ is a
 
-pub named : (name : Name) (l : List ℕ) (x : Contents) (r : List ℕ) → contentsBy name .parse l ≡ found x r → nameIn x ≡ name
+-- ---- an id by its name
+
+abbrev pub IdOf : Message → Name → ℕ → Type 0
+IdOf m theTransaction id = id ≡ transactionId
+IdOf m theRequested id = id ≡ requestedId
+IdOf m theCells id = id ≡ cellsId m
+IdOf m theIndicator id = id ≡ cancelAllId
+IdOf m theNotification id = id ≡ notificationId
+IdOf m unknown id = known m id ≡ false
+
+further-own : (m : Message) (id : ℕ) → (isNamed (furtherName m id) ≡ false → known m id ≡ false) → IdOf m (furtherName m id) id
+further-own CancelRequest id none =
+    by-test (eqb id requestedId)
+    (λ t. rw t (eqb-true id requestedId t))
+    (λ t. by-test (eqb id cancelAllId)
+    (λ u. rw (t, u) (eqb-true id cancelAllId u))
+    (λ u. by-test (eqb id notificationId)
+    (λ v. rw (t, u, v) (eqb-true id notificationId v))
+    (λ v. rw (t, u, v) (none (rw (t, u, v))))))
+further-own CancelResponse id none = none refl
+further-own WriteReplaceResponse id none = none refl
+
+own : (m : Message) (id : ℕ) → IdOf m (nameOf m id) id
+own m id =
+    by-test (eqb id transactionId)
+    (λ t. rw t (eqb-true id transactionId t))
+    (λ t. by-test (eqb id (cellsId m))
+    (λ u. rw (t, u) (eqb-true id (cellsId m) u))
+    (λ u. rw (t, u) (further-own m id (λ n. unfold known in rw (t, u) n))))
+
+pub named : (m : Message) (name : Name) (l : List ℕ) (x : Contents) (r : List ℕ) → contentsBy m name .parse l ≡ found x r → nameIn x ≡ name
 unfolding contentsBy as-if
-named theTransaction l x r e = made theTransaction _ (λ a. refl) (bits 2 transactionFields .parse l) x r e
-named theRequested l x r e = made theRequested _ (λ a. refl) (number 2 .parse l) x r e
-named theCells l x r e = made theCells _ (λ a. refl) (list .parse l) x r e
-named theIndicator l x r e = made theIndicator _ (λ a. refl) (bits 1 blankFields .parse l) x r e
-named theNotification l x r e = made theNotification _ (λ a. refl) (note .parse l) x r e
-named unknown l x r e = made unknown _ (λ a. refl) (opaque .parse l) x r e
+named m theTransaction l x r e = made theTransaction _ (λ a. refl) (bits 2 transactionFields .parse l) x r e
+named m theRequested l x r e = made theRequested _ (λ a. refl) (number 2 .parse l) x r e
+named m theCells l x r e = made theCells _ (λ a. refl) (list m .parse l) x r e
+named m theIndicator l x r e = made theIndicator _ (λ a. refl) (bits 1 blankFields .parse l) x r e
+named m theNotification l x r e = made theNotification _ (λ a. refl) (note .parse l) x r e
+named m unknown l x r e = made unknown _ (λ a. refl) (opaque .parse l) x r e
 
--- ---- an id by its contents
-
-abbrev pub IdOf : Name → ℕ → Type 0
-IdOf theTransaction id = id ≡ transactionId
-IdOf theRequested id = id ≡ requestedId
-IdOf theCells id = id ≡ cellsId
-IdOf theIndicator id = id ≡ cancelAllId
-IdOf theNotification id = id ≡ notificationId
-IdOf unknown id = known id ≡ false
-
-pub id-of : (id : ℕ) (l : List ℕ) (x : Contents) (r : List ℕ) → contents id .parse l ≡ found x r → IdOf (nameIn x) id
+pub id-of : (m : Message) (id : ℕ) (l : List ℕ) (x : Contents) (r : List ℕ) → contents m id .parse l ≡ found x r → IdOf m (nameIn x) id
 unfolding contents
-id-of id l x r e =
-    let own : IdOf (nameOf id) id = name-by (λ n. IdOf n id) id (λ p. p) (λ p. p) (λ p. p) (λ p. p) (λ p. p) (λ p. p) in
-    subst (λ (n : Name). IdOf n id) (sym (named (nameOf id) l x r e)) own
+id-of m id l x r e = subst (λ (n : Name). IdOf m n id) (sym (named m (nameOf m id) l x r e)) (own m id)
+
+-- what contents are read as is known in this message exactly if it has a name
+pub is-known : (m : Message) (id : ℕ) (l : List ℕ) (x : Contents) (r : List ℕ) → contents m id .parse l ≡ found x r → known m id ≡ isNamed (nameIn x)
+unfolding contents known
+is-known m id l x r e = ap isNamed (sym (named m (nameOf m id) l x r e))

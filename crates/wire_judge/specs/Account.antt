@@ -6,13 +6,16 @@ use mathlib.Core.List.{List, [], _∷_}
 use Prim.Native.Nat.{ℕ, _-_, _≤_}
 use lib.Dec.{eqb, ltb}
 use lib.ListN.{length, take, drop}
-use Rattle.rules.specs.Lists.{any}
+use Rattle.rules.specs.Lists.{any, ascending}
+use Rattle.rules.specs.Reply.{identities}
 use Rattle.formats.specs.Format.{Found, nothing, found}
 use Rattle.aper.specs.Elements.{Element}
 use Rattle.wire.specs.Cells.{Entry, list}
-use Rattle.wire.specs.CancelRequest.{transactionId, requestedId, Contents}
-use Rattle.wire.specs.CancelRefusals.{rejecting, lacking, foreignEntry, isKnown}
-use Rattle.wire.specs.CancelRead.{Cancel, nothingSaid, alsoSaid, identities}
+use Rattle.wire.specs.Messages.{transactionId, requestedId}
+use Rattle.wire.specs.MessageTree.{Contents}
+use Rattle.wire.specs.MessageRefusals.{rejecting, lacking, foreignEntry, isKnown}
+use Rattle.wire.specs.MessageSaid.{Said, nothingSaid, alsoSaid, rowsIn}
+use Rattle.wire.specs.declared.Message.{Message}
 use Rattle.wire_judge.specs.declared.Seen.{Seen}
 
 -- 15 and 16 so far, and what was said so far
@@ -23,7 +26,7 @@ pub record Account : Type 0 where
   pub last : ℕ
   pub hasTransaction : Bool
   pub hasRequested : Bool
-  pub says : Cancel
+  pub says : Said
 
 unfoldable pub openAccount : Account
 openAccount = record { rejects = false; lacks = false; ordered = true; last = 0; hasTransaction = false; hasRequested = false; says = nothingSaid }
@@ -58,15 +61,15 @@ accounted a e =
 -- ---- the same in code
 
 -- the list of cells that lies from start to end
-unfoldable pub listAt : List ℕ → ℕ → ℕ → Found (List (Element Entry))
-listAt l start end = list .parse (take (end - start) (drop start l))
+unfoldable pub listAt : Message → List ℕ → ℕ → ℕ → Found (List (Element Entry))
+listAt m l start end = list m .parse (take (end - start) (drop start l))
 
 abbrev pub entriesIn : Found (List (Element Entry)) → List (Element Entry)
 entriesIn nothing = []
 entriesIn (found es rest) = es
 
-unfoldable pub accountBy : List ℕ → Seen → Account
-accountBy l s =
+unfoldable pub accountBy : Message → List ℕ → Seen → Account
+accountBy m l s =
     record {
       rejects = s .rejects;
       lacks = s .lacks;
@@ -78,7 +81,7 @@ accountBy l s =
           record {
             transaction = s .transaction;
             requested = s .requested;
-            cells = identities (entriesIn (listAt l (s .start) (s .end)));
+            cells = rowsIn (entriesIn (listAt m l (s .start) (s .end)));
             cancelsAll = s .all;
             notifies = s .noted;
             identifier = s .identifier;
@@ -86,14 +89,14 @@ accountBy l s =
           };
     }
 
--- without a list there is none to lie anywhere; a list is whole, and every item of it a cell's if nothing is lacking
-abbrev pub WholeList : ℕ → Bool → Found (List (Element Entry)) → Type 0
-WholeList end lacks nothing = end ≡ 0
-WholeList end lacks (found es []) = lacks ≡ false → any foreignEntry es ≡ false
-WholeList end lacks (found es (b ∷ bs)) = ⊥
+-- without a list there is none to lie anywhere; a list is whole, and if nothing is lacking every item of it is a cell's, and it is known whether they ascend
+abbrev pub WholeList : (end : ℕ) (lacks ascends : Bool) → Found (List (Element Entry)) → Type 0
+WholeList end lacks ascends nothing = (end ≡ 0) × (ascends ≡ true)
+WholeList end lacks ascends (found es []) = lacks ≡ false → (any foreignEntry es ≡ false) × (ascends ≡ ascending (identities (rowsIn es)))
+WholeList end lacks ascends (found es (b ∷ bs)) = ⊥
 
 -- where the list lies is in the bytes
-pub record Lies (l : List ℕ) (s : Seen) : Type 0 where
+pub record Lies (m : Message) (l : List ℕ) (s : Seen) : Type 0 where
   pub begins : s .start ≤ s .end
   pub ends : s .end ≤ length l
-  pub list : WholeList (s .end) (s .lacks) (listAt l (s .start) (s .end))
+  pub list : WholeList (s .end) (s .lacks) (s .ascends) (listAt m l (s .start) (s .end))

@@ -1,10 +1,13 @@
-// Whether bytes are a PWS CANCEL REQUEST that can be taken (13 to 16): one pass over the message judges it and remembers what it says and where its list
-// of cells lies, which may be anywhere among its elements.
+// Whether bytes are a certain message that can be taken (13 to 16): one pass over it judges it and remembers what it says and where its list of cells lies,
+// which may be anywhere among its elements.
+mod framing;
+
 ghost use mathlib.Core.Path.{_≡_};
 ghost use Prim.Native.Nat.{_≤_};
 ghost use lib.ListN.{length};
 ghost use Rattle.wire_judge.specs.Account.{Lies};
-ghost use Rattle.wire_judge.specs.Readers.{Extended, FramedAs, nothingSeen, inTurn, pastOf, turnOf, TurnAt, WalkedOver, JudgedAs};
+ghost use Rattle.wire_judge.specs.Readers.{nothingSeen, inTurn, pastOf, turnOf, TurnAt, WalkedOver, hasAll, JudgedAs};
+use crate::framing::frame;
 use aper::CRITICALITIES;
 use aper::REJECT;
 use aper::Step;
@@ -13,28 +16,30 @@ use octets::get8;
 use octets::get16;
 use rules::Refusal;
 use wire::Heard;
+use wire::Message;
 use wire::hear;
 
-// The frame around a message: where a cancel request begins, or that it is another message's.
+// The frame around a message: where the one that is looked for begins, or that it is another message's.
 enum Framed {
-    Cancelling(usize),
+    This(usize),
     Another,
     NoFrame,
 }
 
-// What was seen in the elements so far: whether something is marked reject, whether an item of the list is missing, whether the known elements are in
-// order, the last of them, whether the two mandatory ones are there; what they said; where the list of cells begins and ends, both 0 without one. Wide
-// fields come first, so that no byte between two of them has to be moved along.
+// What was seen in the elements so far: whether something is marked reject, whether an item of the list is missing, whether its cells ascend, whether the
+// known elements are in order, the last of them, whether the two mandatory ones are there; what they said; where the list of cells begins and ends, both 0
+// without one. Wide fields come first, and the numbers are as wide as leaves no byte between two fields or behind the last: such bytes are moved along too.
 pub struct Seen {
     pub start: usize,
     pub end: usize,
-    pub last: u16,
+    pub last: usize,
+    pub transaction: u16,
     pub requested: u16,
     pub identifier: u16,
     pub serial: u16,
-    pub transaction: u8,
     pub rejects: bool,
     pub lacks: bool,
+    pub ascends: bool,
     pub ordered: bool,
     pub identified: bool,
     pub counted: bool,
@@ -60,71 +65,15 @@ pub enum Judged {
     Unfit(Refusal),
 }
 
-// Choice-extension, whose id has two bytes; of the other choices the procedure code has one, so that choice and code stand where an element has its id.
-const CHOICE_EXTENSION: u8 = 192;
-
-const PWS_CANCEL: u16 = 21;
-
-// ---- the frame
-
-// What follows the choice is an element; no cancel request is framed so.
-fn extension_frame(s: &[u8]) -> Framed
-    requires { ⌜ 1 ≤ length (now s) ⌝ }
-    requires { ⌜ Extended (now s) ⌝ }
-    ensures { λ r. ⌜ FramedAs (now (s .entry)) r ⌝ }
-{
-    match element_at(s, 1) {
-        Step::NoElement => Framed::NoFrame,
-        Step::One(_, criticality, _, end) => {
-            if CRITICALITIES <= criticality {
-                return Framed::NoFrame;
-            }
-            if end != s.len() {
-                return Framed::NoFrame;
-            }
-            Framed::Another
-        }
-    }
-}
-
-fn frame(s: &[u8]) -> Framed
-    ensures { λ r. ⌜ FramedAs (now (s .entry)) r ⌝ }
-{
-    if s.len() == 0 {
-        return Framed::NoFrame;
-    }
-    let choice = get8(s, 0);
-    if choice % 64 != 0 {
-        return Framed::NoFrame;
-    }
-    if choice == CHOICE_EXTENSION {
-        return extension_frame(s);
-    }
-    match element_at(s, 0) {
-        Step::NoElement => Framed::NoFrame,
-        Step::One(id, criticality, start, end) => {
-            if CRITICALITIES <= criticality {
-                return Framed::NoFrame;
-            }
-            if end != s.len() {
-                return Framed::NoFrame;
-            }
-            if id == PWS_CANCEL {
-                return Framed::Cancelling(start);
-            }
-            Framed::Another
-        }
-    }
-}
-
 // ---- the elements
 
 fn in_turn(seen: Seen, id: u16) -> Seen
     ensures { λ r. ⌜ r ≡ inTurn seen id ⌝ }
 {
     let mut now = seen;
-    now.ordered = seen.ordered & (seen.last < id);
-    now.last = id;
+    let place = id as usize;
+    now.ordered = seen.ordered & (seen.last < place);
+    now.last = place;
     now
 }
 
@@ -147,7 +96,7 @@ fn turn_of(seen: Seen, id: u16, criticality: u8, start: usize, end: usize, heard
         Heard::Transaction(transaction) => {
             let mut now = in_turn(seen, id);
             now.identified = true;
-            now.transaction = transaction;
+            now.transaction = transaction as u16;
             Turn::Next(now, end)
         }
         Heard::Requested(requested) => {
@@ -156,10 +105,11 @@ fn turn_of(seen: Seen, id: u16, criticality: u8, start: usize, end: usize, heard
             now.requested = requested;
             Turn::Next(now, end)
         }
-        Heard::Cells(rejects, lacks) => {
+        Heard::Cells(rejects, lacks, ascends) => {
             let mut now = in_turn(seen, id);
             now.rejects = seen.rejects | rejects;
             now.lacks = seen.lacks | lacks;
+            now.ascends = ascends;
             now.start = start;
             now.end = end;
             Turn::Next(now, end)
@@ -188,6 +138,7 @@ fn nothing_seen() -> Seen
     Seen {
         rejects: false,
         lacks: false,
+        ascends: true,
         ordered: true,
         last: 0,
         identified: false,
@@ -204,22 +155,29 @@ fn nothing_seen() -> Seen
 }
 
 // The element at an index, and what was seen with it.
-fn turn_at(s: &[u8], at: usize, seen: Seen) -> Turn
+fn turn_at(m: Message, s: &[u8], at: usize, seen: Seen) -> Turn
     requires { ⌜ at ≤ length (now s) ⌝ }
-    requires { ⌜ Lies (now s) seen ⌝ }
-    ensures { λ r. ⌜ TurnAt (now (s .entry)) at seen r ⌝ }
+    requires { ⌜ Lies m (now s) seen ⌝ }
+    ensures { λ r. ⌜ TurnAt m (now (s .entry)) at seen r ⌝ }
 {
     match element_at(s, at) {
         Step::NoElement => Turn::NoTurn,
         Step::One(id, criticality, start, end) => {
-            turn_of(seen, id, criticality, start, end, hear(id, &s[start..end]))
+            turn_of(
+                seen,
+                id,
+                criticality,
+                start,
+                end,
+                hear(m, id, &s[start..end]),
+            )
         }
     }
 }
 
 // The elements of a message behind its extension bit and their number, all of them and nothing else.
-fn elements(s: &[u8]) -> Walk
-    ensures { λ r. ⌜ WalkedOver (now (s .entry)) r ⌝ }
+fn elements(m: Message, s: &[u8]) -> Walk
+    ensures { λ r. ⌜ WalkedOver m (now (s .entry)) r ⌝ }
 {
     if s.len() < 3 {
         return Walk::Broken;
@@ -231,7 +189,7 @@ fn elements(s: &[u8]) -> Walk
     let mut at: usize = 3;
     let mut seen = nothing_seen();
     while 0 < left {
-        match turn_at(s, at, seen) {
+        match turn_at(m, s, at, seen) {
             Turn::NoTurn => return Walk::Broken,
             Turn::Next(now, end) => {
                 seen = now;
@@ -248,19 +206,30 @@ fn elements(s: &[u8]) -> Walk
 
 // ---- 13 to 16
 
-pub fn judge(message: &[u8]) -> Judged
-    ensures { λ r. ⌜ JudgedAs (now (message .entry)) r ⌝ }
+// Whether the mandatory elements are there.
+fn has_all(m: Message, seen: Seen) -> bool
+    ensures { λ r. ⌜ r ≡ hasAll m (seen .identified) (seen .counted) ⌝ }
 {
-    match frame(message) {
+    match m {
+        Message::CancelRequest => seen.identified & seen.counted,
+        Message::CancelResponse => seen.identified,
+        Message::WriteReplaceResponse => seen.identified,
+    }
+}
+
+pub fn judge(m: Message, message: &[u8]) -> Judged
+    ensures { λ r. ⌜ JudgedAs m (now (message .entry)) r ⌝ }
+{
+    match frame(m, message) {
         Framed::NoFrame => Judged::Unfit(Refusal::BadEncoding),
         Framed::Another => Judged::Unfit(Refusal::OtherMessage),
-        Framed::Cancelling(start) => match elements(&message[start..]) {
+        Framed::This(start) => match elements(m, &message[start..]) {
             Walk::Broken => Judged::Unfit(Refusal::BadEncoding),
             Walk::Whole(seen) => {
                 if seen.rejects {
                     return Judged::Unfit(Refusal::UnknownElement);
                 }
-                if seen.ordered & seen.identified & seen.counted & !seen.lacks {
+                if seen.ordered & has_all(m, seen) & !seen.lacks {
                     return Judged::Fine(start, seen);
                 }
                 Judged::Unfit(Refusal::ElementsWrong)

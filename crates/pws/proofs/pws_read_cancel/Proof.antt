@@ -3,9 +3,9 @@
 use mathlib.Core.Path.{_≡_, refl, _∙_, ap}
 use mathlib.Core.List.{List}
 use Prim.Native.Nat.{ℕ}
-use Rattle.wire_cancel.specs.Taken.{takenBy}
-use Rattle.wire_cancel.specs.declared.Taking.{Taking}
-use Rattle.wire_cancel.specs.declared.Taking.the-variants.{Taken, Untaken}
+use Rattle.wire.specs.MessageOutcome.{takenBy}
+use Rattle.wire.specs.declared.Taking.{Taking}
+use Rattle.wire.specs.declared.Taking.the-variants.{Taken, Untaken}
 use Rattle.pws.specs.Surface.{messageBy, taken}
 use borrow.Author.Needs.{needs}
 use Rattle.pws.proofs.pws_read_cancel.Statement.{statement}

@@ -1,42 +1,57 @@
--- `hear` tells what the element with an id tells: the id names the reader that was called.
-use Rattle.wire.specs.CancelRequest.{transactionId, requestedId, cellsId, cancelAllId, notificationId}
-use Rattle.wire.proofs.HearLaws.{known-tells, unknown-tells}
+-- `hear` tells what the element with an id tells in a message: the id names the reader that was called.
+use mathlib.Core.Path.{_≡_, sym, ap, _∙_}
+use native.Mathlib.Omega.{arith}
+use Rattle.wire.specs.Messages.{itemId}
+use Rattle.wire.specs.declared.Message.the-variants.{CancelRequest, CancelResponse, WriteReplaceResponse}
+use Rattle.wire.proofs.HearLaws.{transaction-tells, beside-tells}
 use borrow.Author.Needs.{needs}
 use Rattle.wire.proofs.hear.Statement.{statement}
 use Rattle.wire.proofs.hear.Tie as tie
+use Rattle.wire.proofs.hear.Reads as reads
+use Rattle.wire.proofs.hear.Lts as lts
+use Rattle.wire.proofs.in_request.Reads as in-request-reads
+use Rattle.wire.proofs.in_response.Reads as in-response-reads
+use Rattle.wire.proofs.transaction.Reads as transaction-reads
+
+-- the messages are told apart by their items' ids
+other-id : itemId CancelResponse ≡ itemId CancelRequest → ⊥
+other-id e = omega arith
+
+another-id : itemId WriteReplaceResponse ≡ itemId CancelRequest → ⊥
+another-id e = omega arith
 
 transaction-requires : tie.Need-transaction-requires
 transaction-requires c κs = search needs
 
 returns : tie.Need-returns
-returns c = known-tells _ _ transactionId (c .before .if1 .taken) (c .transaction .result) (c .transaction .ensures)
+returns c = transaction-tells _ _ _ (c .transaction .result) (c .before .if1 .taken) (c .transaction .ensures)
 
-requested-requires : tie.Need-requested-requires
-requested-requires c κs = search needs
+enum-told : tie.Need-enum-told
+enum-told c = search needs
+
+in-request-requires : tie.Need-in-request-requires
+in-request-requires c κs = search needs
+
+enum-told-2 : tie.Need-enum-told-2
+enum-told-2 c = search needs
+
+in-response-requires : tie.Need-in-response-requires
+in-response-requires c κs = λ e. other-id (ap itemId (sym (c .enum-told2 .given .1) ∙ e))
+
+enum-told-3 : tie.Need-enum-told-3
+enum-told-3 c = search needs
+
+in-response-requires-2 : tie.Need-in-response-requires-2
+in-response-requires-2 c κs = λ e. another-id (ap itemId (sym (c .enum-told3 .given .1) ∙ e))
 
 returns-2 : tie.Need-returns-2
-returns-2 c = known-tells _ _ requestedId (c .before .if2 .taken) (c .requested .result) (c .requested .ensures)
-
-cells-requires : tie.Need-cells-requires
-cells-requires c κs = search needs
+returns-2 c = beside-tells _ _ _ (c .in-request .result) (c .before .before .before .if1 .left) (rw (c .before .enum-told .given .1) (c .in-request .ensures))
 
 returns-3 : tie.Need-returns-3
-returns-3 c = known-tells _ _ cellsId (c .before .if3 .taken) (c .cells .result) (c .cells .ensures)
-
-indicator-requires : tie.Need-indicator-requires
-indicator-requires c κs = search needs
+returns-3 c = beside-tells _ _ _ (c .in-response .result) (c .before .before .before .if1 .left) (c .in-response .ensures)
 
 returns-4 : tie.Need-returns-4
-returns-4 c = known-tells _ _ cancelAllId (c .before .if4 .taken) (c .indicator .result) (c .indicator .ensures)
-
-notification-requires : tie.Need-notification-requires
-notification-requires c κs = search needs
-
-returns-5 : tie.Need-returns-5
-returns-5 c = known-tells _ _ notificationId (c .before .if5 .taken) (c .notification .result) (c .notification .ensures)
-
-returns-6 : tie.Need-returns-6
-returns-6 c = unknown-tells _ _ (c .before .before .before .before .if1 .left) (c .before .before .before .if2 .left) (c .before .before .if3 .left) (c .before .if4 .left) (c .if5 .left)
+returns-4 c = beside-tells _ _ _ (c .in-response2 .result) (c .before .before .before .if1 .left) (c .in-response2 .ensures)
 
 pub hear-spec : {M : Type 1} → statement M
 hear-spec =
@@ -44,12 +59,12 @@ hear-spec =
     (tie.spec
     transaction-requires
     returns
-    requested-requires
+    enum-told
+    in-request-requires
+    enum-told-2
+    in-response-requires
+    enum-told-3
+    in-response-requires-2
     returns-2
-    cells-requires
     returns-3
-    indicator-requires
-    returns-4
-    notification-requires
-    returns-5
-    returns-6)
+    returns-4)

@@ -1,13 +1,16 @@
 -- `put_record` leaves the record of what a message says at the start of the buffer, or refuses and leaves the buffer as it was: by the two tests.
 -- The list in the message's bytes is whole, so that its cells can be counted and written; fields and cells, one behind the other, are the record.
-use mathlib.Core.Path.{_≡_, _∙_}
+use mathlib.Core.Path.{_≡_, sym, ap, _∙_}
 use mathlib.Core.Bool.{true}
-use lib.ListN.{length}
+use lib.ListN.{length, length-map}
 use lib.Seq.{length-sets}
 use borrow.Author.Tests.{not-true, not-false}
 use Rattle.rules.specs.Refusals.{cancelsSome}
-use Rattle.wire.specs.CancelRead.{cancelRequest}
-use Rattle.wire_cancel.proofs.RecordLaws.{Says, cells-said, some-said, request-said, part-whole, none-put, short-put, record-put}
+use Rattle.wire.specs.CancelRead.{named, cancelRequest}
+use Rattle.wire.specs.declared.Message.the-variants.{CancelRequest}
+use Rattle.wire_cells.specs.Listed.{rowsListed}
+use Rattle.wire_cancel.specs.Taken.{cellsListed}
+use Rattle.wire_cancel.proofs.RecordLaws.{part, Says, cells-said, some-said, request-said, part-whole, none-put, short-put, record-put}
 use borrow.Author.Needs.{needs}
 use Rattle.wire_cancel.proofs.put_record.Statement.{statement}
 use Rattle.wire_cancel.proofs.put_record.Tie as tie
@@ -32,8 +35,11 @@ counted c = c .before .before .before .before
 some : (c : Counted) → cancelsSome (cancelRequest (Says (called c .args .elements .now) (called c .args .seen))) ≡ true
 some c = some-said (called c .args .elements .now) (called c .args .seen) ∙ not-false _ (c .before .before .if1 .left)
 
-many : (c : Counted) → c .cell-count .result ≡ length (Says (called c .args .elements .now) (called c .args .seen) .cells)
-many c = rw (← cells-said (called c .args .elements .now) (called c .args .seen)) (c .cell-count .ensures .counts)
+listed : (c : Counted) → c .cell-count .result ≡ length (cellsListed (part (called c .args .elements .now) (called c .args .seen)))
+listed c = c .cell-count .ensures .counts ∙ sym (length-map (rowsListed CancelRequest (part (called c .args .elements .now) (called c .args .seen))) (λ w. w .identity))
+
+many : (c : Counted) → c .cell-count .result ≡ length (named (Says (called c .args .elements .now) (called c .args .seen)))
+many c = listed c ∙ ap length (cells-said (called c .args .elements .now) (called c .args .seen))
 
 returns : tie.Need-returns
 returns c =
@@ -80,13 +86,13 @@ put-cells-requires c κs =
     let stored : Stored = c .before .before .before in
     let n = counted stored in
     let a = called n in
-    (part-whole (a .args .elements .now) (a .args .seen) (a .pre .0) (a .pre .1), rw (stored .put-fields .ensures, length-sets, ← n .cell-count .ensures .counts) (stored .before .before .before .if2 .left))
+    (part-whole (a .args .elements .now) (a .args .seen) (a .pre .0) (a .pre .1), rw (stored .put-fields .ensures, length-sets, ← listed n) (stored .before .before .before .if2 .left))
 
 mul-t12 : tie.Need-mul-t12
 mul-t12 c = search needs
 
-add-t14 : tie.Need-add-t14
-add-t14 c = search needs
+add-t15 : tie.Need-add-t15
+add-t15 c = search needs
 
 same-length : tie.Need-same-length
 same-length c = search needs
@@ -96,7 +102,7 @@ returns-3 c =
     let stored : Stored = c .before .before .before .before .before .before in
     let n = counted stored in
     let a = called n .args in
-    let q = stored .before .request-of .ensures ∙ request-said (a .elements .now) (a .seen) (n .cell-count .ensures .counts) in
+    let q = stored .before .request-of .ensures ∙ request-said (a .elements .now) (a .seen) (listed n) in
     record-put (Says (a .elements .now) (a .seen)) (a .buffer .now) (some n) (rw (← many n) (stored .before .before .before .if2 .left)) (many n) q (stored .put-fields .ensures)
     (rw (← cells-said (a .elements .now) (a .seen)) (c .before .before .put-cells .ensures))
 
@@ -117,6 +123,6 @@ put-record-spec =
     put-fields-requires
     put-cells-requires
     mul-t12
-    add-t14
+    add-t15
     same-length
     returns-3)

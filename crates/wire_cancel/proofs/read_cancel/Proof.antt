@@ -1,4 +1,5 @@
 -- `read_cancel` leaves what the definition of reading says: a refused message leaves nothing, and of a fit one the record decides (`fit-taken`).
+use Rattle.wire.specs.declared.Message.the-variants.{CancelRequest}
 use Rattle.wire_judge.specs.Readers.{FitMessage}
 use Rattle.rules.specs.declared.Writing.the-variants.{Written, Unwritten}
 use Rattle.wire_cancel.proofs.TakenLaws.{not-taken, lent-lies, fit-taken}
@@ -10,7 +11,7 @@ use Rattle.wire_cancel.proofs.read_cancel.Tie as tie
 abbrev Fit : Type 0
 Fit = tie.After-start
 
-fit : (c : Fit) → FitMessage (c .before .before .before .before .before .args .message .now) (c .start .given .0 .0) (c .start .given .0 .1 .0)
+fit : (c : Fit) → FitMessage CancelRequest (c .before .before .before .before .before .args .message .now) (c .start .given .0 .0) (c .start .given .0 .1 .0)
 fit c = rw (c .start .given .1) at (c .before .before .judge .ensures)
 
 judge-requires : tie.Need-judge-requires

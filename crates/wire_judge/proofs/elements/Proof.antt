@@ -5,19 +5,19 @@ use Rattle.wire_judge.proofs.elements.Statement.{statement}
 use Rattle.wire_judge.proofs.elements.Tie as tie
 
 abbrev Inv-loop : tie.InvT-loop
-Inv-loop s left₀ at₀ seen₀ left at seen = Going s left at seen
+Inv-loop m s left₀ at₀ seen₀ left at seen = Going m s left at seen
 
 abbrev μ-loop : tie.MeasureT-loop
-μ-loop s left₀ at₀ seen₀ left at seen = left
+μ-loop m s left₀ at₀ seen₀ left at seen = left
 
 returns : tie.Need-returns Inv-loop μ-loop
-returns c = walk-short _ (λ i. c .before .shared-slice-known .given i .fits) (c .if1 .taken)
+returns c = walk-short _ _ (λ i. c .before .shared-slice-known .given i .fits) (c .if1 .taken)
 
 get8-requires : tie.Need-get8-requires Inv-loop μ-loop
 get8-requires c κs = search needs
 
 returns-2 : tie.Need-returns-2 Inv-loop μ-loop
-returns-2 c = walk-extended _ _ (c .before .before .if1 .left) (c .before .get8 .ensures) (c .if2 .taken)
+returns-2 c = walk-extended _ _ _ (c .before .before .if1 .left) (c .before .get8 .ensures) (c .if2 .taken)
 
 get16-requires : tie.Need-get16-requires Inv-loop μ-loop
 get16-requires c κs = search needs
@@ -31,7 +31,7 @@ nothing-seen-requires c κs = search needs
 loop-holds : tie.Need-loop-holds Inv-loop μ-loop
 loop-holds c =
     rw (c .nothing-seen .ensures)
-    (walk-start _ _ (c .before .before .before .before .if1 .left) (c .before .before .before .get8 .ensures) (c .before .before .if2 .left) _ (c .before .get16 .ensures))
+    (walk-start _ _ _ (c .before .before .before .before .if1 .left) (c .before .before .before .get8 .ensures) (c .before .before .if2 .left) _ (c .before .get16 .ensures))
 
 turn-at-requires : tie.Need-turn-at-requires Inv-loop μ-loop
 turn-at-requires c κs = (c .before .loop .inv .walking .within, c .before .loop .inv .lies)
@@ -41,7 +41,7 @@ enum-told c = search needs
 
 returns-3 : tie.Need-returns-3 Inv-loop μ-loop
 returns-3 c =
-    turn-broken _ (c .before .before .before .before .loop .inv) (c .before .before .before .loop-test .taken) (rw (c .enum-told .given .1) at (c .before .before .turn-at .ensures))
+    turn-broken _ _ (c .before .before .before .before .loop .inv) (c .before .before .before .loop-test .taken) (rw (c .enum-told .given .1) at (c .before .before .turn-at .ensures))
 
 enum-known-now : tie.Need-enum-known-now Inv-loop μ-loop
 enum-known-now c = search needs
@@ -54,14 +54,14 @@ loop-less c = search needs
 
 loop-again : tie.Need-loop-again Inv-loop μ-loop
 loop-again c =
-    turn-on _ (c .before .before .before .before .before .loop .inv) (c .before .before .before .before .loop-test .taken) _ _
+    turn-on _ _ (c .before .before .before .before .before .loop .inv) (c .before .before .before .before .loop-test .taken) _ _
     (rw (c .before .now .given .1) at (c .before .before .before .turn-at .ensures))
 
 returns-4 : tie.Need-returns-4 Inv-loop μ-loop
-returns-4 c = walk-behind _ (c .before .before .loop .inv) (c .before .loop-test .left) (c .if3 .taken)
+returns-4 c = walk-behind _ _ (c .before .before .loop .inv) (c .before .loop-test .left) (c .if3 .taken)
 
 returns-5 : tie.Need-returns-5 Inv-loop μ-loop
-returns-5 c = walk-whole _ (c .before .before .loop .inv) (c .before .loop-test .left) (c .if3 .left)
+returns-5 c = walk-whole _ _ (c .before .before .loop .inv) (c .before .loop-test .left) (c .if3 .left)
 
 pub elements-spec : {M : Type 1} → statement M
 elements-spec =

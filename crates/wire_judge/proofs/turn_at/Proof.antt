@@ -29,13 +29,13 @@ turn-of-requires : tie.Need-turn-of-requires
 turn-of-requires c κs = search needs
 
 returns : tie.Need-returns
-returns c = turn-none _ _ _ (c .before .before .before .before .pre .1) (rw (c .enum-told .given .1) at (c .before .before .element-at .ensures))
+returns c = turn-none _ _ _ _ (c .before .before .before .before .pre .1) (rw (c .enum-told .given .1) at (c .before .before .element-at .ensures))
 
 returns-2 : tie.Need-returns-2
 returns-2 c =
     let start = c .before .before .before .before .before .before .before .before in
     let read = rw (c .before .before .before .before .id .given .1) at (c .before .before .before .before .before .before .element-at .ensures) in
-    rw (c .turn-of .ensures) (turn-kept _ _ _ (start .pre .1) _ _ _ _ read _ (c .before .hear .ensures))
+    rw (c .turn-of .ensures) (turn-kept _ _ _ _ (start .pre .1) _ _ _ _ read _ (c .before .hear .ensures))
 
 pub turn-at-spec : {M : Type 1} → statement M
 turn-at-spec =

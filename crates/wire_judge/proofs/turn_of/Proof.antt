@@ -10,6 +10,9 @@ enum-known-heard c = search needs
 in-turn-requires : tie.Need-in-turn-requires
 in-turn-requires c κs = search needs
 
+cast-now : tie.Need-cast-now
+cast-now c = search needs
+
 enum-known-heard-2 : tie.Need-enum-known-heard-2
 enum-known-heard-2 c = search needs
 
@@ -77,6 +80,7 @@ turn-of-spec =
     (tie.spec
     enum-known-heard
     in-turn-requires
+    cast-now
     enum-known-heard-2
     in-turn-requires-2
     enum-known-heard-3
