@@ -1,0 +1,4 @@
+pub mod MeantLaws
+pub mod AnswerLeftLaws
+pub mod ResponseTakenLaws
+pub mod Once

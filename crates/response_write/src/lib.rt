@@ -1,0 +1,223 @@
+// A response written from an answer and a transaction identifier (document 02, 6/13): how long it will be, and then its parts, one behind the other,
+// each item out of a row of the answer.
+ghost use mathlib.Core.Path.{_≡_};
+ghost use mathlib.Core.List.{_++_, flatMap};
+ghost use Prim.Native.Nat.{_+_, _*_, _<_, _≤_};
+ghost use lib.ListN.{length};
+ghost use lib.Seq.{sets};
+ghost use Rattle.rules.specs.Layout.{mostCells, cellEnd};
+ghost use Rattle.rules.specs.Applied.{filledBy};
+ghost use Rattle.answer.specs.Rows.{rowsIn, rowSaid};
+ghost use Rattle.aper.specs.Elements.{longLength};
+ghost use Rattle.wire.specs.Messages.{cellsId};
+ghost use Rattle.responses.specs.Response.{responseWritten};
+ghost use Rattle.responses.specs.ResponseSize.{elementSize, entrySize, listedSize};
+ghost use Rattle.response_write.specs.Parts.{responseBy, opening, openingSize, itemStart, itemBytes, RowsOf, listBytes, frontBytes, frontSize, frameStart};
+use answer::Row;
+use answer::kind;
+use answer::row_at;
+use answer::rows;
+use answer_judge::can_be_answered;
+use octets::put8;
+use octets::put16;
+use octets::put32;
+use octets::put64;
+use rules::Refusal;
+use rules::Writing;
+use rules::kind::CANCEL_OR_KILL;
+
+// A length below this has one byte, any other two, and the first bit of them is set.
+const SHORT: usize = 128;
+
+const LONG: u32 = 128;
+
+// What stands before a length: an id or the frame's choice and code, and a criticality.
+const START: usize = 3;
+
+// The number of items less one.
+const COUNTED: usize = 2;
+
+// An item without its count of broadcasts: four bytes before the flags, which are one, and eight for the cell.
+const ITEM: usize = 13;
+
+const FLAGS_AT: usize = 4;
+
+const CELL_AT: usize = 5;
+
+const BROADCASTS: usize = 2;
+
+// The 36 bits of a cell are followed by 4 of padding.
+const PADDING: u64 = 16;
+
+// The number of elements and the transaction identifier's element but for its last byte, which is the number.
+const FRONT: usize = 9;
+
+const NUMBER_AT: usize = 8;
+
+const ELEMENT: u64 = 0x10000000000;
+
+const TRANSACTION: u64 = 0x4e000200;
+
+// ---- what tells the two responses apart; only the items of a PWS CANCEL RESPONSE have counts
+
+fn frame_start(counted: bool) -> u16
+    ensures { λ r. ⌜ r ≡ frameStart (responseBy counted) ⌝ }
+{
+    if counted {
+        return 0x4015;
+    }
+    0x4014
+}
+
+fn list_id(counted: bool) -> u16
+    ensures { λ r. ⌜ r ≡ cellsId (responseBy counted) ⌝ }
+{
+    if counted {
+        return 150;
+    }
+    146
+}
+
+fn item_start(counted: bool) -> u32
+    ensures { λ r. ⌜ r ≡ itemStart (responseBy counted) ⌝ }
+{
+    if counted {
+        return 0x97000b;
+    }
+    0x930009
+}
+
+fn item_size(counted: bool) -> usize
+    ensures { λ r. ⌜ r ≡ entrySize (responseBy counted) ⌝ }
+{
+    if counted {
+        return ITEM + BROADCASTS;
+    }
+    ITEM
+}
+
+// ---- how long it will be
+
+// So many bytes with what stands before them.
+fn enclosed_size(n: usize) -> usize
+    requires { ⌜ n < longLength ⌝ }
+    ensures { λ r. ⌜ r ≡ elementSize n ⌝ }
+{
+    if n < SHORT {
+        return START + 1 + n;
+    }
+    START + 2 + n
+}
+
+// "A list with no rows is left out."
+fn list_size(counted: bool, many: usize) -> usize
+    requires { ⌜ many ≤ mostCells ⌝ }
+    ensures { λ r. ⌜ r ≡ listedSize (responseBy counted) many ⌝ }
+{
+    if many == 0 {
+        return 0;
+    }
+    enclosed_size(COUNTED + item_size(counted) * many)
+}
+
+// ---- its parts
+
+// What stands before n bytes, their length in its shortest form. Returns where it ends, as the one below does.
+fn put_opening(message: &mut [u8], at: usize, start: u16, n: usize) -> usize
+    requires { ⌜ n < longLength ⌝ }
+    requires { ⌜ at + openingSize n ≤ length (now message) ⌝ }
+    ensures { λ r. ⌜ (now (message .exit) ≡ sets (now (message .entry)) at (opening start n)) × (r ≡ at + openingSize n) ⌝ }
+{
+    let started = (start as u32) * 65536;
+    if n < SHORT {
+        put32(message, at, started + (n as u32));
+        return at + START + 1;
+    }
+    put32(message, at, started + LONG + ((n / 256) as u32));
+    put8(message, at + START + 1, (n % 256) as u8);
+    at + START + 2
+}
+
+// All before the list, for a value of so many bytes.
+fn put_front(message: &mut [u8], counted: bool, value: usize, many: usize, transaction: u8) -> usize
+    requires { ⌜ value < longLength ⌝ }
+    requires { ⌜ openingSize value + frontSize ≤ length (now message) ⌝ }
+    ensures { λ r. ⌜ (now (message .exit) ≡ sets (now (message .entry)) 0 (opening (frameStart (responseBy counted)) value ++ frontBytes many transaction)) × (r ≡ openingSize value + frontSize) ⌝ }
+{
+    let at = put_opening(message, 0, frame_start(counted), value);
+    put64(
+        message,
+        at,
+        (1 + ((0 < many) as u64)) * ELEMENT + TRANSACTION,
+    );
+    put8(message, at + NUMBER_AT, transaction);
+    at + FRONT
+}
+
+fn put_item(message: &mut [u8], at: usize, counted: bool, row: Row)
+    requires { ⌜ at + entrySize (responseBy counted) ≤ length (now message) ⌝ }
+    requires { ⌜ rowSaid row .identity < cellEnd ⌝ }
+    ensures { λ _. ⌜ now (message .exit) ≡ sets (now (message .entry)) at (itemBytes (responseBy counted) (rowSaid row)) ⌝ }
+{
+    put32(message, at, item_start(counted));
+    put8(message, at + FLAGS_AT, 0);
+    put64(message, at + CELL_AT, row.identity.0 * PADDING);
+    if !counted {
+        return;
+    }
+    put16(message, at + ITEM, row.count.0);
+}
+
+// An item of each row.
+fn put_items(message: &mut [u8], at: usize, counted: bool, answer: &[u8], many: usize)
+    requires { ⌜ at + entrySize (responseBy counted) * many ≤ length (now message) ⌝ }
+    requires { ⌜ RowsOf (now answer) many ⌝ }
+    ensures { λ _. ⌜ now (message .exit) ≡ sets (now (message .entry)) at (flatMap (itemBytes (responseBy counted)) (rowsIn (now (answer .entry)) many)) ⌝ }
+{
+    let mut to = at;
+    let mut k: usize = 0;
+    while k < many {
+        put_item(message, to, counted, row_at(answer, k));
+        to += item_size(counted);
+        k += 1;
+    }
+}
+
+// The list, if there are rows.
+fn put_list(message: &mut [u8], at: usize, counted: bool, answer: &[u8], many: usize)
+    requires { ⌜ at + listedSize (responseBy counted) many ≤ length (now message) ⌝ }
+    requires { ⌜ RowsOf (now answer) many ⌝ }
+    ensures { λ _. ⌜ now (message .exit) ≡ sets (now (message .entry)) at (listBytes (responseBy counted) (rowsIn (now (answer .entry)) many)) ⌝ }
+{
+    if many == 0 {
+        return;
+    }
+    let start = put_opening(
+        message,
+        at,
+        list_id(counted),
+        COUNTED + item_size(counted) * many,
+    );
+    put16(message, start, (many - 1) as u16);
+    put_items(message, start + COUNTED, counted, answer, many);
+}
+
+// ---- all of it
+
+pub fn write_response(answer: &[u8], transaction: u8, message: &mut [u8]) -> Writing
+    ensures { λ r. ⌜ filledBy r (now (message .exit)) ≡ responseWritten (now (answer .entry)) transaction (now (message .entry)) ⌝ }
+{
+    if !can_be_answered(answer) {
+        return Writing::Unwritten(Refusal::AnswerWrong);
+    }
+    let many = rows(answer);
+    let counted = kind(answer) == CANCEL_OR_KILL;
+    let value = FRONT + list_size(counted, many);
+    let size = enclosed_size(value);
+    if message.len() < size {
+        return Writing::Unwritten(Refusal::ShortBuffer);
+    }
+    let at = put_front(message, counted, value, many, transaction);
+    put_list(message, at, counted, answer, many);
+    Writing::Written(size)
+}

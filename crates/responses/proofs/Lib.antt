@@ -1,0 +1,12 @@
+pub mod ElementFit
+pub mod ItemFit
+pub mod ListFit
+pub mod ResponseSizeLaws
+pub mod ResponseFit
+pub mod AnsweringLaws
+pub mod TreeLaws
+pub mod ReadLaws
+pub mod SoundRowLaws
+pub mod WritableLaws
+pub mod ResponsePromisesHold
+pub mod ResponseSamplesHold

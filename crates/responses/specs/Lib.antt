@@ -1,0 +1,5 @@
+pub mod Response
+pub mod ResponseSize
+pub mod ResponseRead
+pub mod ResponsePromises
+pub mod ResponseSamples
