@@ -18,6 +18,8 @@ use Rattle.pws.proofs.pws_item.Met as item
 use Rattle.pws.proofs.pws_segment.Met as segment
 use Rattle.pws.proofs.pws_pack.Met as pack
 use Rattle.pws.proofs.pws_read_cancel.Met as cancel
+use Rattle.pws.proofs.pws_write_response.Met as write-response
+use Rattle.pws.proofs.pws_read_response.Met as read-response
 
 asks-nothing : AsksNothing
 asks-nothing =
@@ -31,6 +33,8 @@ asks-nothing =
       segment-asks = λ κs args. tt;
       pack-asks = λ κs args. tt;
       cancel-asks = λ κs args. tt;
+      write-response-asks = λ κs args. tt;
+      read-response-asks = λ κs args. tt;
     }
 
 code-meets : CodeMeets
@@ -45,6 +49,8 @@ code-meets =
       segment-meets = segment.met;
       pack-meets = pack.met;
       cancel-meets = cancel.met;
+      write-response-meets = write-response.met;
+      read-response-meets = read-response.met;
     }
 
 learns-promises : LearnsPromises
@@ -59,6 +65,8 @@ learns-promises =
       segment-says = λ κs first more k d p. p;
       pack-says = λ κs bytes lengths list list′ d p. p;
       cancel-says = λ κs message buffer buffer′ m p. p;
+      write-response-says = λ κs answer transaction message message′ d p. p;
+      read-response-says = λ κs bytes answer answer′ m p. p;
     }
 
 pub contracts-hold : Contracts
@@ -88,4 +96,6 @@ one-outcome-only =
       segment-once = λ κs args d e x y p q i. let o = one-outcome p q i in record { number = o .number; buffer = o .buffer; start = o .start; length = o .length };
       pack-once = λ κs args d e x y p q. filled-once d e (now (x .1 .1 .0)) (now (y .1 .1 .0)) (one-outcome p q);
       cancel-once = λ κs args m n x y p q. taken-once m n (now (x .1 .0)) (now (y .1 .0)) (one-outcome p q);
+      write-response-once = λ κs args d e x y p q. filled-once d e (now (x .1 .1 .0)) (now (y .1 .1 .0)) (one-outcome p q);
+      read-response-once = λ κs args m n x y p q. taken-once m n (now (x .1 .0)) (now (y .1 .0)) (one-outcome p q);
     }

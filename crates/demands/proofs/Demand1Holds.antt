@@ -1,71 +1,28 @@
 -- Demand 1 holds.
 -- What is returned and left is what the definition says: its number is the verdict's (NumberLaws), which its stages decide (StageLaws), and its refusals leave everything as it was.
-use mathlib.Core.Path.{_≡_, refl, ap, _∙_}
+use mathlib.Core.Path.{_≡_, refl, _∙_}
 use mathlib.Core.List.{List}
 use Prim.Native.Nat.{ℕ}
 use lib.ListN.{length}
 use Rattle.rules.specs.Layout.{current}
 use Rattle.rules.specs.Record.{requestOf, itemsOf}
 use Rattle.rules.specs.Refusals.{verdictNumber}
-use Rattle.rules.specs.Applied.{Filled, ReadOutcome, Outcome, built, conversion, written, readOf, itemAt, applied}
+use Rattle.rules.specs.Applied.{Filled, built, conversion, written, readOf, itemAt, applied}
 use Rattle.rules.specs.declared.Verdict.{Verdict}
 use Rattle.rules.proofs.VerdictLaws.{write-chain, apply-chain, convert-chain, build-chain}
 use Rattle.rules.proofs.OutcomeLaws.{built-refused, conversion-refused, written-refused, read-refused, applied-refused}
-use Rattle.segments.specs.Segments.{Lies, liesAt, packVerdict, packed}
+use Rattle.segments.specs.Segments.{liesAt, packVerdict, packed}
 use Rattle.segments.proofs.Refused.{lies-refused, packed-refused}
+use Rattle.wire.specs.declared.Message.the-variants.{CancelRequest}
+use Rattle.responses.specs.ResponseRead.{answering, rowsRead}
 use Rattle.pws.specs.Surface.{filled}
 use Rattle.pws.specs.declared.PwsDone.{PwsDone}
 use Rattle.demands.specs.Demand1.{Stage, Filling, Demand1}
 use Rattle.demands.proofs.ContractsHold.{contracts-hold}
 use Rattle.demands.proofs.NumberLaws.{fill-number, reading-number, outcome-number, lying-number}
-use Rattle.demands.proofs.MessageLaws.{number-taken, transaction-taken, length-taken, buffer-taken, cancel-chain, message-number, message-refused}
-use Rattle.demands.proofs.StageLaws.{within-table, within-older, within-record, within-items, within-asked, within-room, within-heads, within-segment, within-lengths, within-count, within-message, within-cancels, chain, EachWithin, numbered}
-
--- ---- field by field
-
-number-filled : {x y : Filled} → x ≡ y → x .number ≡ y .number
-number-filled e = ap (λ (f : Filled). f .number) e
-
-length-filled : {x y : Filled} → x ≡ y → x .length ≡ y .length
-length-filled e = ap (λ (f : Filled). f .length) e
-
-buffer-filled : {x y : Filled} → x ≡ y → x .buffer ≡ y .buffer
-buffer-filled e = ap (λ (f : Filled). f .buffer) e
-
-number-read : {x y : ReadOutcome} → x ≡ y → x .number ≡ y .number
-number-read e = ap (λ (f : ReadOutcome). f .number) e
-
-request-read : {x y : ReadOutcome} → x ≡ y → x .request ≡ y .request
-request-read e = ap (λ (f : ReadOutcome). f .request) e
-
-items-read : {x y : ReadOutcome} → x ≡ y → x .items ≡ y .items
-items-read e = ap (λ (f : ReadOutcome). f .items) e
-
-number-left : {x y : Outcome} → x ≡ y → x .number ≡ y .number
-number-left e = ap (λ (f : Outcome). f .number) e
-
-length-left : {x y : Outcome} → x ≡ y → x .length ≡ y .length
-length-left e = ap (λ (f : Outcome). f .length) e
-
-table-left : {x y : Outcome} → x ≡ y → x .table ≡ y .table
-table-left e = ap (λ (f : Outcome). f .table) e
-
-answer-left : {x y : Outcome} → x ≡ y → x .answer ≡ y .answer
-answer-left e = ap (λ (f : Outcome). f .answer) e
-
-number-lies : {x y : Lies} → x ≡ y → x .number ≡ y .number
-number-lies e = ap (λ (p : Lies). p .number) e
-
-buffer-lies : {x y : Lies} → x ≡ y → x .buffer ≡ y .buffer
-buffer-lies e = ap (λ (p : Lies). p .buffer) e
-
-start-lies : {x y : Lies} → x ≡ y → x .start ≡ y .start
-start-lies e = ap (λ (p : Lies). p .start) e
-
-length-lies : {x y : Lies} → x ≡ y → x .length ≡ y .length
-length-lies e = ap (λ (p : Lies). p .length) e
-
--- ---- each entry point
+use Rattle.demands.proofs.FieldLaws.{number-filled, length-filled, buffer-filled, number-read, request-read, items-read, number-left, length-left, table-left, answer-left, number-lies, buffer-lies, start-lies, length-lies, number-taken, transaction-taken, length-taken, buffer-taken}
+use Rattle.demands.proofs.MessageLaws.{cancel-chain, cancel-number, cancel-refused, sent-chain, sent-number, sent-refused, response-chain, response-number, response-refused}
+use Rattle.demands.proofs.StageLaws.{within-table, within-older, within-record, within-items, within-asked, within-room, within-heads, within-segment, within-lengths, within-count, within-message, within-cancels, within-rows, within-answer, chain, EachWithin, numbered}
 
 -- what fills a buffer as its stages say, and leaves it as it was where one refuses
 filling : (stages : List Stage) → EachWithin stages → (v : Verdict) → v ≡ chain stages → (f : Filled) (buffer : List ℕ) → f .number ≡ verdictNumber v
@@ -99,10 +56,19 @@ demand-1 =
           filling _ (within-lengths lengths (length bytes), (within-count lengths, (within-room _ (length list), tt))) _ refl _ list
           (fill-number _ _ list) (packed-refused bytes lengths list);
       cancel-numbered = λ message buffer m buffer′ p.
-          numbered _ (within-message message, (within-cancels _, (within-room _ (length buffer), tt))) _ (cancel-chain message (length buffer)) (m .number)
-          (number-taken p ∙ message-number message buffer);
+          numbered _ (within-message CancelRequest message, (within-cancels _, (within-room _ (length buffer), tt))) _ (cancel-chain message (length buffer)) (m .number)
+          (number-taken p ∙ cancel-number message buffer);
       cancel-refused = λ message buffer m buffer′ p h.
-          let x = message-refused message buffer (λ z. h (number-taken p ∙ z)) in
+          let x = cancel-refused message buffer (λ z. h (number-taken p ∙ z)) in
+          (transaction-taken p ∙ x .0, length-taken p ∙ x .1, buffer-taken p ∙ x .2);
+      of-write-response = λ answer transaction message.
+          filling _ (within-answer answer, (within-room _ (length message), tt)) _ (sent-chain answer transaction (length message)) _ message
+          (sent-number answer transaction message) (sent-refused answer transaction message);
+      response-numbered = λ message answer m answer′ p.
+          numbered _ (within-message (answering message) message, (within-rows (rowsRead message), (within-room _ (length answer), tt))) _ (response-chain message (length answer)) (m .number)
+          (number-taken p ∙ response-number message answer);
+      response-refused = λ message answer m answer′ p h.
+          let x = response-refused message answer (λ z. h (number-taken p ∙ z)) in
           (transaction-taken p ∙ x .0, length-taken p ∙ x .1, buffer-taken p ∙ x .2);
       read-numbered = λ req d p. numbered _ (within-record req, tt) _ refl (d .number) (number-read p ∙ reading-number _ req);
       read-refused = λ req d p h.

@@ -1,4 +1,6 @@
 pub mod ContractsHold
+pub mod FieldLaws
+pub mod FrontLaws
 pub mod NumberLaws
 pub mod StageLaws
 pub mod MessageLaws
@@ -28,3 +30,8 @@ pub mod SecondsAlike
 pub mod AnswerStaysHolds
 pub mod ConversionHolds
 pub mod WireCancelHolds
+pub mod ResponseLaws
+pub mod WireResponseHolds
+pub mod StoppedLaws
+pub mod ChainLinks
+pub mod WireChainHolds

@@ -33,13 +33,16 @@ module _ (m : Message) (b : List ℕ) where
   unfolding wellEncoded
   parsed e t = whole-found (message m .parse b) (rw t at e)
 
-  pub read-as : Bytes b → (tree : Frame Elements) → message m .parse b ≡ found tree [] → ReadAs m b tree
+  -- the encoding of a tree that is read as that tree
+  pub tree-read : (tree : Frame Elements) → message m .fits tree → message m .encode tree ≡ b → message m .parse b ≡ found tree [] → ReadAs m b tree
   unfolding messageElements
-  read-as bytes tree e =
-      let back = one-reading m .back b bytes tree e in
+  tree-read tree fits encoded e =
       record {
-        fits = back .0;
-        encoded = back .1;
+        fits = fits;
+        encoded = encoded;
         alone = λ other f same. ap (treeIn tree) (sym (one-reading m .there other f) ∙ ap (message m .parse) same ∙ e);
         says = ap (λ x. said (valueIn x)) e;
       }
+
+  pub read-as : Bytes b → (tree : Frame Elements) → message m .parse b ≡ found tree [] → ReadAs m b tree
+  read-as bytes tree e = let back = one-reading m .back b bytes tree e in tree-read tree (back .0) (back .1) e

@@ -8,18 +8,21 @@ use native.Mathlib.Omega.{arith}
 use lib.Dec.{leb}
 use lib.ListN.{length}
 use borrow.Author.Tests.{leb-true}
-use Rattle.rules.specs.Lists.{every}
+use Rattle.rules.specs.Lists.{every, ascending}
 use Rattle.rules.specs.Layout.{current, longestPeriod}
+use Rattle.rules.specs.Reply.{Row, identities}
 use Rattle.rules.specs.Refusals.{numberOf, verdictNumber, refuseUnless, _then_, Test, firstOf, fewItems, cancelsSome, fitsIn, legalHeads, tableTests, olderTests, requestTests, recordTests, tableVerdict, olderVerdict, requestVerdict, recordVerdict}
 use Rattle.rules.specs.declared.Request.{Request}
 use Rattle.rules.specs.declared.Refusal.{Refusal}
-use Rattle.rules.specs.declared.Refusal.the-variants.{RecordLength, CancelsNothing, ShortBuffer, BadHeads, ListDamaged, TooManySegments, NoSuchSegment}
+use Rattle.rules.specs.declared.Refusal.the-variants.{RecordLength, CancelsNothing, ShortBuffer, BadHeads, ListDamaged, TooManySegments, NoSuchSegment, AnswerWrong}
 use Rattle.rules.specs.declared.Verdict.{Verdict}
 use Rattle.rules.specs.declared.Verdict.the-variants.{Accepted, Refused}
 use Rattle.rules.proofs.TestLaws.{both}
 use Rattle.rules.proofs.OutcomeLaws.{number-positive}
+use Rattle.answer_judge.specs.Answerable.{answerable}
 use Rattle.segments.specs.Segments.{mostSegments, lengthsFit, segmentsOf, wholeList, segmentVerdict}
 use Rattle.wire.specs.MessageRefusals.{messageTests, messageVerdict}
+use Rattle.wire.specs.declared.Message.{Message}
 use Rattle.demands.specs.Demand1.{Stage, Given, Numbered}
 
 -- ---- the numbers of a verdict
@@ -88,9 +91,15 @@ within-segment more k =
     (within-next (leb (length (segmentsOf more)) mostSegments) TooManySegments _ (omega arith, omega arith)
     (within-last (leb k (length (segmentsOf more))) NoSuchSegment (omega arith, omega arith)))
 
-pub within-message : (message : List ℕ) → Within 13 16 (messageVerdict message)
+pub within-message : (m : Message) (message : List ℕ) → Within 13 16 (messageVerdict m message)
 unfolding messageVerdict every
-within-message message = within-first 13 16 (messageTests message) refl
+within-message m message = within-first 13 16 (messageTests m message) refl
+
+pub within-rows : (rows : List Row) → Within 17 17 (refuseUnless (ascending (identities rows)) AnswerWrong)
+within-rows rows = within-last (ascending (identities rows)) AnswerWrong (omega arith, omega arith)
+
+pub within-answer : (answer : List ℕ) → Within 17 17 (refuseUnless (answerable answer) AnswerWrong)
+within-answer answer = within-last (answerable answer) AnswerWrong (omega arith, omega arith)
 
 pub within-cancels : (request : Request) → Within 7 7 (refuseUnless (cancelsSome request) CancelsNothing)
 within-cancels request = within-last (cancelsSome request) CancelsNothing (omega arith, omega arith)

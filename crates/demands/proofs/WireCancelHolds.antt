@@ -6,14 +6,13 @@ use mathlib.Core.List.{List, [], _∷_, _++_, map, flatMap}
 use Prim.Native.Nat.{ℕ, _≤_}
 use native.Mathlib.Omega.{arith}
 use borrow.Author.Tests.{leb-true}
-use lib.ListN.{length, take, drop, length-map}
-use lib.Seq.{sets, drop-at}
+use lib.ListN.{length, length-map}
+use lib.Seq.{sets}
 use Rattle.octets.specs.Runs.{Bytes}
-use Rattle.octets.proofs.RunsLaws.{sets-front, take-sets-front}
 use Rattle.rules.specs.Lists.{those}
 use Rattle.rules.specs.Record.{itemsOf}
 use Rattle.rules.specs.Refusals.{verdictNumber}
-use Rattle.rules.specs.Applied.{Filled, fill, readOf}
+use Rattle.rules.specs.Applied.{fill, readOf}
 use Rattle.rules.specs.declared.Verdict.the-variants.{Accepted}
 use Rattle.rules.proofs.TestLaws.{by-test}
 use Rattle.rules.proofs.RecordTrips.{length-recordBytes}
@@ -35,7 +34,9 @@ use Rattle.pws.specs.declared.PwsMessage.{PwsMessage}
 use Rattle.pws.specs.Promises.{ReadCancelPromise}
 use Rattle.demands.specs.WireCancel.{CancelTaken, markedAs, WireCancel}
 use Rattle.demands.proofs.ReadAsLaws.{parsed, read-as}
-use Rattle.demands.proofs.MessageLaws.{number-taken, transaction-taken, length-taken, buffer-taken, message-number, message-accepted}
+use Rattle.demands.proofs.FieldLaws.{number-filled, length-filled, buffer-filled, number-taken, transaction-taken, length-taken, buffer-taken}
+use Rattle.demands.proofs.FrontLaws.{front}
+use Rattle.demands.proofs.MessageLaws.{cancel-number, cancel-accepted}
 
 -- ---- the record, and the transaction identifier
 
@@ -49,21 +50,20 @@ module _ (message buffer : List ℕ) where
       let c = saidIn CancelRequest message in
       let sound = message-sound CancelRequest message bytes in
       let long : length (recordOf c) ≡ recordRoom c = length-recordBytes (cancelRequest c) (named c) (request-fits c sound) (omega (arith, length-map (c .cells) (λ w. w .identity), sound .few)) in
-      let fits : length (recordOf c) ≤ length buffer = omega (arith, room) in
-      let whole : take (m .length) buffer′ ≡ recordOf c = rw (n, w) (take-sets-front buffer (recordOf c) fits) in
+      let f = front (recordOf c) buffer (omega (arith, long, room)) (m .length) buffer′ n w in
       record {
         size = n ∙ long;
-        whole = whole;
-        behind = rw (n, w, sets-front buffer (recordOf c) fits) (drop-at (recordOf c) (drop (length (recordOf c)) buffer) (length (recordOf c)) refl);
-        reads = rw whole (back .0);
-        reads-cells = rw whole (back .1);
+        whole = f .whole;
+        behind = f .behind;
+        reads = rw (f .whole) (back .0);
+        reads-cells = rw (f .whole) (back .1);
         transaction = t;
         one-byte = omega (arith, t, sound .transaction);
       }
 
 -- the tests that a call passed which returned 0
 passed : (message buffer : List ℕ) (m : PwsMessage) (buffer′ : List ℕ) → ReadCancelPromise message buffer m buffer′ → m .number ≡ 0 → cancelVerdict message (length buffer) ≡ Accepted
-passed message buffer m buffer′ p z = message-accepted message buffer (sym (number-taken p) ∙ z)
+passed message buffer m buffer′ p z = cancel-accepted message buffer (sym (number-taken p) ∙ z)
 
 taken-whole : (message buffer : List ℕ) → Bytes message → (m : PwsMessage) (buffer′ : List ℕ) → ReadCancelPromise message buffer m buffer′ → m .number ≡ 0 → CancelTaken message buffer m buffer′
 unfolding cancelRead fill
@@ -120,7 +120,7 @@ wire-cancel-holds =
       taken = taken-whole;
       as-written = λ message buffer bytes e m buffer′ p d buffer″ q.
           let w = p ∙ legal-record .writer message buffer bytes e in
-          (number-taken w ∙ sym (ap (λ (f : Filled). f .number) q), length-taken w ∙ sym (ap (λ (f : Filled). f .length) q), buffer-taken w ∙ sym (ap (λ (f : Filled). f .buffer) q));
+          (number-taken w ∙ sym (number-filled q), length-taken w ∙ sym (length-filled q), buffer-taken w ∙ sym (buffer-filled q));
       same-taken = λ first second buffer tree other f s this also same m buffer′ p n buffer″ q.
           let w = p ∙ same-record first second buffer tree other f s this also same ∙ sym q in
           record {
@@ -139,5 +139,5 @@ wire-cancel-holds =
           (number-taken w, transaction-taken w, length-taken w, buffer-taken w);
       accepted = λ message buffer m buffer′ p.
           let exact = refusing .exact message (length buffer) in
-          (λ held. number-taken p ∙ message-number message buffer ∙ ap verdictNumber (exact .accepts held), λ z. exact .accepted (passed message buffer m buffer′ p z));
+          (λ held. number-taken p ∙ cancel-number message buffer ∙ ap verdictNumber (exact .accepts held), λ z. exact .accepted (passed message buffer m buffer′ p z));
     }

@@ -6,7 +6,7 @@ use contract.Lifetimes.{Lfts}
 use denote.Ref.{RefT, now}
 use Rattle.octets.specs.Settled.{Settles, SettlesResult}
 use Rattle.rules.specs.declared.Request.{Request}
-use Rattle.pws.specs.Promises.{BuildPromise, ConvertPromise, ApplyPromise, ReadPromise, WritePromise, ItemPromise, SegmentPromise, PackPromise, ReadCancelPromise}
+use Rattle.pws.specs.Promises.{BuildPromise, ConvertPromise, ApplyPromise, ReadPromise, WritePromise, ItemPromise, SegmentPromise, PackPromise, ReadCancelPromise, WriteResponsePromise, ReadResponsePromise}
 use Rattle.pws.specs.declared.PwsDone.{PwsDone}
 use Rattle.pws.specs.declared.PwsReading.{PwsReading}
 use Rattle.pws.specs.declared.PwsPart.{PwsPart}
@@ -29,6 +29,10 @@ use Rattle.pws.proofs.pws_pack.Reads as pack
 use Rattle.pws.proofs.pws_pack.Statement as pack-code
 use Rattle.pws.proofs.pws_read_cancel.Reads as cancel
 use Rattle.pws.proofs.pws_read_cancel.Statement as cancel-code
+use Rattle.pws.proofs.pws_write_response.Reads as write-response
+use Rattle.pws.proofs.pws_write_response.Statement as write-response-code
+use Rattle.pws.proofs.pws_read_response.Reads as read-response
+use Rattle.pws.proofs.pws_read_response.Statement as read-response-code
 
 -- a lent buffer, at any place in memory
 abbrev Lent : Type 0
@@ -45,6 +49,8 @@ pub record AsksNothing : Type 0 where
   pub segment-asks : (κs : Lfts 2) (args : _) → segment.Asked κs args
   pub pack-asks : (κs : Lfts 3) (args : _) → pack.Asked κs args
   pub cancel-asks : (κs : Lfts 2) (args : _) → cancel.Asked κs args
+  pub write-response-asks : (κs : Lfts 2) (args : _) → write-response.Asked κs args
+  pub read-response-asks : (κs : Lfts 2) (args : _) → read-response.Asked κs args
 
 -- the code comes back with what its contract says, at every model of the machine
 pub record CodeMeets : Type 2 where
@@ -57,6 +63,8 @@ pub record CodeMeets : Type 2 where
   pub segment-meets : {M : Type 1} → segment-code.statement M
   pub pack-meets : {M : Type 1} → pack-code.statement M
   pub cancel-meets : {M : Type 1} → cancel-code.statement M
+  pub write-response-meets : {M : Type 1} → write-response-code.statement M
+  pub read-response-meets : {M : Type 1} → read-response-code.statement M
 
 -- what a caller learns is the promise
 pub record LearnsPromises : Type 0 where
@@ -87,6 +95,12 @@ pub record LearnsPromises : Type 0 where
   pub cancel-says : (κs : Lfts 2) (message buffer buffer′ : Lent) (m : PwsMessage)
       → cancel.Learnt κs (message, (buffer, tt)) m (message, (buffer′, tt))
       → ReadCancelPromise (now message) (now buffer) m (now buffer′)
+  pub write-response-says : (κs : Lfts 2) (answer : Lent) (transaction : ℕ) (message message′ : Lent) (d : PwsDone)
+      → write-response.Learnt κs (answer, (transaction, (message, tt))) d (answer, (transaction, (message′, tt)))
+      → WriteResponsePromise (now answer) transaction (now message) d (now message′)
+  pub read-response-says : (κs : Lfts 2) (bytes answer answer′ : Lent) (m : PwsMessage)
+      → read-response.Learnt κs (bytes, (answer, tt)) m (bytes, (answer′, tt))
+      → ReadResponsePromise (now bytes) (now answer) m (now answer′)
 
 -- ---- THE CLAIM
 
@@ -108,3 +122,5 @@ pub record OneOutcome : Type 0 where
   pub segment-once : SettlesResult segment.Learnt
   pub pack-once : Settles {X = PwsDone × List ℕ} pack.Learnt (λ κs d exit. (d, now (exit .1 .1 .0)))
   pub cancel-once : Settles {X = PwsMessage × List ℕ} cancel.Learnt (λ κs m exit. (m, now (exit .1 .0)))
+  pub write-response-once : Settles {X = PwsDone × List ℕ} write-response.Learnt (λ κs d exit. (d, now (exit .1 .1 .0)))
+  pub read-response-once : Settles {X = PwsMessage × List ℕ} read-response.Learnt (λ κs m exit. (m, now (exit .1 .0)))

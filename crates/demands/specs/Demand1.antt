@@ -5,22 +5,29 @@ use mathlib.Core.List.{List, [], _∷_}
 use Prim.Native.Nat.{ℕ, _+_, _*_, _≤_}
 use lib.Dec.{leb}
 use lib.ListN.{length}
-use Rattle.rules.specs.Layout.{current, longestPeriod, headerSize, cellSize, recordSize, itemSize}
+use Rattle.rules.specs.Lists.{ascending}
+use Rattle.rules.specs.Layout.{current, longestPeriod, headerSize, cellSize, recordSize, itemSize, answerSize, rowSize}
 use Rattle.rules.specs.Table.{cellCount}
 use Rattle.rules.specs.Record.{requestOf}
-use Rattle.rules.specs.Answer.{roomFor}
+use Rattle.rules.specs.Reply.{Row, identities}
+use Rattle.rules.specs.Answer.{answerOf, roomFor}
 use Rattle.rules.specs.Refusals.{numberOf, verdictNumber, refuseUnless, fewItems, cancelsSome, fitsIn, headCount, legalHeads, tableVerdict, olderVerdict, recordVerdict, requestVerdict, buildVerdict, convertVerdict, applyVerdict, writeVerdict}
 use Rattle.rules.specs.Applied.{noRequest}
 use Rattle.rules.specs.declared.Request.{Request}
 use Rattle.rules.specs.declared.Refusal.{Refusal}
-use Rattle.rules.specs.declared.Refusal.the-variants.{RecordLength, CancelsNothing, ShortBuffer, BadHeads, ListDamaged, TooManySegments}
+use Rattle.rules.specs.declared.Refusal.the-variants.{RecordLength, CancelsNothing, ShortBuffer, BadHeads, ListDamaged, TooManySegments, AnswerWrong}
 use Rattle.rules.specs.declared.Verdict.{Verdict}
 use Rattle.rules.specs.declared.Verdict.the-variants.{Accepted, Refused}
+use Rattle.answer_judge.specs.Answerable.{answerable}
 use Rattle.segments.specs.Segments.{mostSegments, listBytes, cutAt, lengthsFit, segmentVerdict, packVerdict}
 use Rattle.wire.specs.MessageRefusals.{messageVerdict}
 use Rattle.wire.specs.MessageSaid.{saidIn}
 use Rattle.wire.specs.CancelRead.{cancelRequest, recordRoom, cancelVerdict}
-use Rattle.pws.specs.Promises.{BuildPromise, ConvertPromise, ApplyPromise, ReadPromise, WritePromise, ItemPromise, SegmentPromise, PackPromise, ReadCancelPromise}
+use Rattle.wire.specs.declared.Message.{Message}
+use Rattle.wire.specs.declared.Message.the-variants.{CancelRequest}
+use Rattle.responses.specs.Response.{responseOf, responseVerdict}
+use Rattle.responses.specs.ResponseRead.{answering, rowsRead, readVerdict}
+use Rattle.pws.specs.Promises.{BuildPromise, ConvertPromise, ApplyPromise, ReadPromise, WritePromise, ItemPromise, SegmentPromise, PackPromise, ReadCancelPromise, WriteResponsePromise, ReadResponsePromise}
 use Rattle.pws.specs.declared.PwsDone.{PwsDone}
 use Rattle.pws.specs.declared.PwsReading.{PwsReading}
 use Rattle.pws.specs.declared.PwsPart.{PwsPart}
@@ -69,12 +76,19 @@ abbrev pub countStage : List ℕ → Stage
 countStage lengths =
     record { lowest = 11; highest = 11; verdict = refuseUnless (leb (length lengths) mostSegments) TooManySegments }
 
--- a message from the wire, then whether what it asks for cancels anything
-abbrev pub messageStage : List ℕ → Stage
-messageStage message = record { lowest = 13; highest = 16; verdict = messageVerdict message }
+-- a message from the wire; then whether what it asks for cancels anything, or whether the cells that it names ascend
+abbrev pub messageStage : Message → List ℕ → Stage
+messageStage m message = record { lowest = 13; highest = 16; verdict = messageVerdict m message }
 
 abbrev pub cancelsStage : Request → Stage
 cancelsStage request = record { lowest = 7; highest = 7; verdict = refuseUnless (cancelsSome request) CancelsNothing }
+
+abbrev pub rowsStage : List Row → Stage
+rowsStage rows = record { lowest = 17; highest = 17; verdict = refuseUnless (ascending (identities rows)) AnswerWrong }
+
+-- an answer to be sent
+abbrev pub answerStage : List ℕ → Stage
+answerStage answer = record { lowest = 17; highest = 17; verdict = refuseUnless (answerable answer) AnswerWrong }
 
 -- ---- a call's number
 
@@ -119,9 +133,19 @@ pub record Demand1 : Type 2 where
   -- a message from the wire: 13 to 16, "then 7 and 8 of document 01"; a refusal comes with transaction identifier 0 too
   pub cancel-numbered : (message buffer : List ℕ) (m : PwsMessage) (buffer′ : List ℕ) → ReadCancelPromise message buffer m buffer′
       → let room = length buffer in
-      Numbered (m .number) (cancelVerdict message room) (messageStage message ∷ cancelsStage (cancelRequest (saidIn message)) ∷ roomStage (recordRoom (saidIn message)) room ∷ [])
+      Numbered (m .number) (cancelVerdict message room) (messageStage CancelRequest message ∷ cancelsStage (cancelRequest (saidIn CancelRequest message)) ∷ roomStage (recordRoom (saidIn CancelRequest message)) room ∷ [])
   pub cancel-refused : (message buffer : List ℕ) (m : PwsMessage) (buffer′ : List ℕ) → ReadCancelPromise message buffer m buffer′
       → (m .number ≡ 0 → ⊥) → (m .transaction ≡ 0) × (m .length ≡ 0) × (buffer′ ≡ buffer)
+  -- a response to be written: 17, "then 8"
+  pub of-write-response : (answer : List ℕ) (transaction : ℕ) (message : List ℕ) (d : PwsDone) (message′ : List ℕ) → WriteResponsePromise answer transaction message d message′
+      → let room = length message in
+      Filling d message message′ (responseVerdict answer transaction room) (answerStage answer ∷ roomStage (length (responseOf (answerOf current answer) transaction)) room ∷ [])
+  -- a response from the wire: "13 to 16 as in 5/13, 17 for cells that don't ascend, then 8"
+  pub response-numbered : (message answer : List ℕ) (m : PwsMessage) (answer′ : List ℕ) → ReadResponsePromise message answer m answer′
+      → let room = length answer in
+      Numbered (m .number) (readVerdict message room) (messageStage (answering message) message ∷ rowsStage (rowsRead message) ∷ roomStage (answerSize current + rowSize current * length (rowsRead message)) room ∷ [])
+  pub response-refused : (message answer : List ℕ) (m : PwsMessage) (answer′ : List ℕ) → ReadResponsePromise message answer m answer′
+      → (m .number ≡ 0 → ⊥) → (m .transaction ≡ 0) × (m .length ≡ 0) × (answer′ ≡ answer)
   -- reading writes nothing; a refusal comes with no request and no items
   pub read-numbered : (req : List ℕ) (d : PwsReading) → ReadPromise req d → Numbered (d .number) (recordVerdict current req) (recordStage req ∷ [])
   pub read-refused : (req : List ℕ) (d : PwsReading) → ReadPromise req d

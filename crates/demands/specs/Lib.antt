@@ -9,3 +9,5 @@ pub mod Demand3
 pub mod Demand3Samples
 pub mod Conversion
 pub mod WireCancel
+pub mod WireResponse
+pub mod WireChain

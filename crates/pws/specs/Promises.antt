@@ -8,6 +8,8 @@ use Rattle.rules.specs.Applied.{built, conversion, written, readOf, itemAt, app
 use Rattle.rules.specs.declared.Request.{Request}
 use Rattle.segments.specs.Segments.{liesAt, packed}
 use Rattle.wire.specs.CancelRead.{cancelRead}
+use Rattle.responses.specs.Response.{responseWritten}
+use Rattle.responses.specs.ResponseRead.{responseRead}
 use Rattle.pws.specs.Surface.{filled, left, lies, readTo, taken}
 use Rattle.pws.specs.declared.PwsDone.{PwsDone}
 use Rattle.pws.specs.declared.PwsReading.{PwsReading}
@@ -40,3 +42,9 @@ PackPromise bytes lengths list d list′ = filled d list′ ≡ packed bytes len
 
 abbrev pub ReadCancelPromise : (message buffer : List ℕ) → PwsMessage → List ℕ → Type 0
 ReadCancelPromise message buffer m buffer′ = taken m buffer′ ≡ cancelRead message buffer
+
+abbrev pub WriteResponsePromise : (answer : List ℕ) (transaction : ℕ) (message : List ℕ) → PwsDone → List ℕ → Type 0
+WriteResponsePromise answer transaction message d message′ = filled d message′ ≡ responseWritten answer transaction message
+
+abbrev pub ReadResponsePromise : (message answer : List ℕ) → PwsMessage → List ℕ → Type 0
+ReadResponsePromise message answer m answer′ = taken m answer′ ≡ responseRead message answer

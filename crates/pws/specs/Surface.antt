@@ -5,7 +5,7 @@ use Rattle.rules.specs.Refusals.{numberOf, writingNumber, writingLength}
 use Rattle.rules.specs.Applied.{Filled, ReadOutcome, Outcome}
 use Rattle.rules.specs.declared.Writing.{Writing}
 use Rattle.segments.specs.Segments.{Lies}
-use Rattle.wire.specs.CancelRead.{MessageOutcome}
+use Rattle.wire.specs.MessageOutcome.{MessageOutcome}
 use Rattle.wire.specs.declared.Taking.{Taking}
 use Rattle.wire.specs.declared.Taking.the-variants.{Taken, Untaken}
 use Rattle.pws.specs.declared.PwsDone.{PwsDone}
@@ -34,6 +34,6 @@ abbrev pub messageBy : Taking → PwsMessage
 messageBy (Taken t n) = record { number = 0; transaction = t; length = n }
 messageBy (Untaken x) = record { number = numberOf x; transaction = 0; length = 0 }
 
--- a record is left
+-- a record is left, or the answer in a response
 abbrev pub taken : PwsMessage → List ℕ → MessageOutcome
 taken m buffer = record { number = m .number; transaction = m .transaction; length = m .length; buffer = buffer }

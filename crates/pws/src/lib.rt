@@ -2,7 +2,7 @@
 ghost use mathlib.Core.Path.{_≡_};
 ghost use Rattle.rules.specs.Applied.{noRequest};
 ghost use Rattle.pws.specs.Surface.{doneBy, messageBy};
-ghost use Rattle.pws.specs.Promises.{BuildPromise, ConvertPromise, ApplyPromise, ReadPromise, WritePromise, ItemPromise, SegmentPromise, PackPromise, ReadCancelPromise};
+ghost use Rattle.pws.specs.Promises.{BuildPromise, ConvertPromise, ApplyPromise, ReadPromise, WritePromise, ItemPromise, SegmentPromise, PackPromise, ReadCancelPromise, WriteResponsePromise, ReadResponsePromise};
 use rules::Broadcasts;
 use rules::Reading;
 use rules::Request;
@@ -36,7 +36,7 @@ pub struct PwsPart {
     pub length: usize,
 }
 
-// 0, the transaction identifier of a message and the length of the record written; or a refusal's number, and everything else 0.
+// 0, the transaction identifier of a message and the length of the record or answer written; or a refusal's number, and everything else 0.
 #[repr(C)]
 pub struct PwsMessage {
     pub number: u32,
@@ -161,6 +161,20 @@ pub extern "C" fn pws_read_cancel(bytes: &[u8], buffer: &mut [u8]) -> PwsMessage
     ensures { λ r. ⌜ ReadCancelPromise (now (bytes .entry)) (now (buffer .entry)) r (now (buffer .exit)) ⌝ }
 {
     message(wire_cancel::read_cancel(bytes, buffer))
+}
+
+#[no_mangle]
+pub extern "C" fn pws_write_response(answer: &[u8], transaction: u8, bytes: &mut [u8]) -> PwsDone
+    ensures { λ r. ⌜ WriteResponsePromise (now (answer .entry)) transaction (now (bytes .entry)) r (now (bytes .exit)) ⌝ }
+{
+    done(response_write::write_response(answer, transaction, bytes))
+}
+
+#[no_mangle]
+pub extern "C" fn pws_read_response(bytes: &[u8], answer: &mut [u8]) -> PwsMessage
+    ensures { λ r. ⌜ ReadResponsePromise (now (bytes .entry)) (now (answer .entry)) r (now (answer .exit)) ⌝ }
+{
+    message(response_read::read_response(bytes, answer))
 }
 
 // No request: what the reader returns with a refusal.

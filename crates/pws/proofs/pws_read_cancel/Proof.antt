@@ -1,19 +1,11 @@
 -- `pws_read_cancel` leaves what `cancelRead` gives.
 -- By what `read_cancel` ensures, what it took said as numbers.
-use mathlib.Core.Path.{_≡_, refl, _∙_, ap}
-use mathlib.Core.List.{List}
-use Prim.Native.Nat.{ℕ}
-use Rattle.wire.specs.MessageOutcome.{takenBy}
-use Rattle.wire.specs.declared.Taking.{Taking}
-use Rattle.wire.specs.declared.Taking.the-variants.{Taken, Untaken}
-use Rattle.pws.specs.Surface.{messageBy, taken}
+use mathlib.Core.Path.{_∙_, ap}
+use Rattle.pws.specs.Surface.{taken}
+use Rattle.pws.proofs.MessageLaws.{same-taken}
 use borrow.Author.Needs.{needs}
 use Rattle.pws.proofs.pws_read_cancel.Statement.{statement}
 use Rattle.pws.proofs.pws_read_cancel.Tie as tie
-
-same : (t : Taking) (buffer : List ℕ) → taken (messageBy t) buffer ≡ takenBy t buffer
-same (Taken t n) buffer = refl
-same (Untaken x) buffer = refl
 
 read-cancel-requires : tie.Need-read-cancel-requires
 read-cancel-requires c κs = search needs
@@ -27,7 +19,7 @@ same-length c = search needs
 returns : tie.Need-returns
 returns c =
     let call = c .before .before .before .read-cancel in
-    ap (λ m. taken m (call .last .1 .0)) (c .message .ensures) ∙ same (call .result) (call .last .1 .0) ∙ call .ensures
+    ap (λ m. taken m (call .last .1 .0)) (c .message .ensures) ∙ same-taken (call .result) (call .last .1 .0) ∙ call .ensures
 
 pub pws-read-cancel-spec : {M : Type 1} → statement M
 pws-read-cancel-spec = tie.close (tie.spec read-cancel-requires message-requires same-length returns)
