@@ -1,7 +1,7 @@
 //! A second implementation of document 01 and of document 02's texts in segments, earthquake
-//! primaries, periods above an hour and cancels from the wire, written from the documents alone, so
-//! that the first one can be compared with it. Bytes are decoded into cells, places, requests and
-//! rows, the rules work on these, and what changed is encoded again.
+//! primaries, periods above an hour, cancels from the wire and answers on it, written from the
+//! documents alone, so that the first one can be compared with it. Bytes are decoded into cells,
+//! places, requests and rows, the rules work on these, and what changed is encoded again.
 
 #![forbid(unsafe_code)]
 
@@ -38,4 +38,4 @@ pub use report::report;
 pub use request::Request;
 pub use segments::{pack, segment};
 pub use table::{build, Table};
-pub use wire::{read_cancel, Message};
+pub use wire::{read_cancel, read_response, write_response, Message};

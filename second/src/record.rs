@@ -114,15 +114,20 @@ pub fn read(record: &[u8]) -> Reading {
 
 /// Tests 4 (n only), 5, 6, 7, 8.
 pub fn write(request: Request, items: &[u64], record: &mut [u8]) -> Done {
-    let judged = if items.len() > Record::MOST_ITEMS {
-        Err(Refusal::RecordLength)
-    } else {
-        request.judge(&Layout::CURRENT, items)
-    };
-    judged
-        .map(|()| Record { request, items: items.to_vec() }.encode())
-        .and_then(|written| lay(&written, record))
-        .into()
+    written(request, items, record).into()
+}
+
+/// The length of the record that is written.
+pub(crate) fn written(
+    request: Request,
+    items: &[u64],
+    record: &mut [u8],
+) -> Result<usize, Refusal> {
+    if items.len() > Record::MOST_ITEMS {
+        return Err(Refusal::RecordLength);
+    }
+    request.judge(&Layout::CURRENT, items)?;
+    lay(&Record { request, items: items.to_vec() }.encode(), record)
 }
 
 /// The k-th item of any bytes, counted from 0; 0 where they end before the item does.

@@ -20,6 +20,8 @@ pub enum Refusal {
     OtherMessage = 14,
     UnknownElement = 15,
     ElementOrder = 16,
+    /// No accepted Write-Replace or Cancel has it, whatever the table.
+    NoSuchAnswer = 17,
 }
 
 impl Refusal {

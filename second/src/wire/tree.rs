@@ -1,27 +1,11 @@
-//! The messages of F1AP as trees: the frame of any, and the elements of a PWS CANCEL REQUEST. What
+//! The messages of F1AP as trees: the frame of any, and the elements of one whose form is known. What
 //! is made here is well encoded to its last bit; whether its elements are the right ones is not
 //! looked at.
 
 use super::cursor::Cursor;
+use super::forms::*;
 use super::types::whole;
 use crate::cell::CellIdentity;
-
-// The alternatives of an F1AP-PDU, and the procedure.
-const INITIATING_MESSAGE: u64 = 0;
-const CHOICE_EXTENSION: u64 = 3;
-const PWS_CANCEL: u64 = 21;
-
-// The identifiers that are known, each in its own place.
-const TRANSACTION_ID: u64 = 78;
-const NUMBER_OF_BROADCAST_REQUEST: u64 = 142;
-const BROADCAST_TO_BE_CANCELLED_LIST: u64 = 148;
-const BROADCAST_TO_BE_CANCELLED_ITEM: u64 = 149;
-const CANCEL_ALL_WARNING_MESSAGES_INDICATOR: u64 = 157;
-const NOTIFICATION_INFORMATION: u64 = 220;
-
-const MOST_CELLS: u64 = 512;
-const MOST_ELEMENTS: u64 = 65_535;
-const MOST_EXTENSIONS: u64 = 65_535;
 
 /// The outer frame of any message.
 #[derive(Debug, PartialEq, Eq)]
@@ -35,16 +19,15 @@ pub(super) struct Frame<'a> {
 impl<'a> Frame<'a> {
     pub fn decode(message: &'a [u8]) -> Option<Frame<'a>> {
         whole(message, |cursor| {
-            let choice = cursor.whole_number(INITIATING_MESSAGE..=CHOICE_EXTENSION)?;
-            let largest_code = if choice == CHOICE_EXTENSION { 65_535 } else { 255 };
-            let code = cursor.whole_number(0..=largest_code)?;
+            let choice = cursor.whole_number(CHOICES)?;
+            let code = cursor.whole_number(if choice == CHOICE_EXTENSION { IDS } else { CODES })?;
             Criticality::of(cursor.bits(2)?)?;
             Some(Frame { choice, code, value: cursor.open_type()? })
         })
     }
 
-    pub fn is_cancel_request(&self) -> bool {
-        (self.choice, self.code) == (INITIATING_MESSAGE, PWS_CANCEL)
+    pub fn has(&self, form: &Form) -> bool {
+        (self.choice, self.code) == (form.choice, form.code)
     }
 }
 
@@ -73,7 +56,7 @@ struct Field<'a> {
 impl<'a> Field<'a> {
     fn decode(cursor: &mut Cursor<'a>) -> Option<Field<'a>> {
         Some(Field {
-            id: cursor.whole_number(0..=65_535)?,
+            id: cursor.whole_number(IDS)?,
             criticality: cursor.bits(2)?,
             value: cursor.open_type()?,
         })
@@ -95,61 +78,71 @@ impl<'a> Unknown<'a> {
     }
 }
 
-/// A PWS CANCEL REQUEST's elements, in the order in which they came.
+/// A message's elements, in the order in which they came.
 #[derive(Debug, PartialEq, Eq)]
-pub(super) struct CancelRequest<'a> {
+pub(super) struct Tree<'a> {
     pub elements: Vec<Element<'a>>,
 }
 
-impl<'a> CancelRequest<'a> {
-    pub fn decode(value: &'a [u8]) -> Option<CancelRequest<'a>> {
+impl<'a> Tree<'a> {
+    pub fn decode(form: &Form, value: &'a [u8]) -> Option<Tree<'a>> {
         whole(value, |cursor| {
             cursor.not_extended()?;
-            let elements = cursor.sequence_of(0..=MOST_ELEMENTS, Element::decode)?;
-            Some(CancelRequest { elements })
+            let elements = cursor.sequence_of(ELEMENTS, |one| Element::decode(form, one))?;
+            Some(Tree { elements })
         })
     }
 }
 
 #[derive(Debug, PartialEq, Eq)]
 pub(super) enum Element<'a> {
+    /// With its place among those of the form.
+    Known(usize, Value<'a>),
+    Unknown(Unknown<'a>),
+}
+
+impl<'a> Element<'a> {
+    fn decode(form: &Form, cursor: &mut Cursor<'a>) -> Option<Element<'a>> {
+        let field = Field::decode(cursor)?;
+        match form.elements.iter().position(|known| known.id == field.id) {
+            None => Unknown::of(field).map(Element::Unknown),
+            Some(place) => {
+                let contents = form.elements[place].contents;
+                let value = whole(field.value, |cursor| Value::decode(contents, cursor))?;
+                Some(Element::Known(place, value))
+            }
+        }
+    }
+}
+
+#[derive(Debug, PartialEq, Eq)]
+pub(super) enum Value<'a> {
     Transaction(u64),
     Requested(u64),
     Cells(Vec<Item<'a>>),
     CancelAll,
     Notification(Notification<'a>),
-    Unknown(Unknown<'a>),
 }
 
-impl<'a> Element<'a> {
-    fn decode(cursor: &mut Cursor<'a>) -> Option<Element<'a>> {
-        let field = Field::decode(cursor)?;
-        match field.id {
-            TRANSACTION_ID => whole(field.value, transaction).map(Element::Transaction),
-            NUMBER_OF_BROADCAST_REQUEST => {
-                whole(field.value, |cursor| cursor.whole_number(0..=65_535)).map(Element::Requested)
+impl<'a> Value<'a> {
+    fn decode(contents: Contents, cursor: &mut Cursor<'a>) -> Option<Value<'a>> {
+        match contents {
+            Contents::Transaction => {
+                cursor.not_extended()?;
+                cursor.whole_number(TRANSACTIONS).map(Value::Transaction)
             }
-            BROADCAST_TO_BE_CANCELLED_LIST => whole(field.value, |cursor| {
-                cursor.sequence_of(1..=MOST_CELLS, Item::decode).map(Element::Cells)
-            }),
-            CANCEL_ALL_WARNING_MESSAGES_INDICATOR => whole(field.value, cancel_all),
-            NOTIFICATION_INFORMATION => {
-                whole(field.value, Notification::decode).map(Element::Notification)
+            Contents::Requested => cursor.whole_number(COUNTS).map(Value::Requested),
+            Contents::Cells(listed) => {
+                cursor.sequence_of(CELLS, |one| Item::decode(listed, one)).map(Value::Cells)
             }
-            _ => Unknown::of(field).map(Element::Unknown),
+            // An enumeration of one value, so that it has no bit but that of its extension.
+            Contents::CancelAll => {
+                cursor.not_extended()?;
+                cursor.whole_number(0..=0).map(|_| Value::CancelAll)
+            }
+            Contents::Notification => Notification::decode(cursor).map(Value::Notification),
         }
     }
-}
-
-fn transaction(cursor: &mut Cursor) -> Option<u64> {
-    cursor.not_extended()?;
-    cursor.whole_number(0..=255)
-}
-
-/// An enumeration of one value, so that it has no bit but that of its extension.
-fn cancel_all<'a>(cursor: &mut Cursor<'a>) -> Option<Element<'a>> {
-    cursor.not_extended()?;
-    cursor.whole_number(0..=0).map(|_| Element::CancelAll)
 }
 
 #[derive(Debug, PartialEq, Eq)]
@@ -176,11 +169,18 @@ pub(super) enum Item<'a> {
 }
 
 impl<'a> Item<'a> {
-    fn decode(cursor: &mut Cursor<'a>) -> Option<Item<'a>> {
+    fn decode(listed: Listed, cursor: &mut Cursor<'a>) -> Option<Item<'a>> {
         let field = Field::decode(cursor)?;
-        match field.id {
-            BROADCAST_TO_BE_CANCELLED_ITEM => whole(field.value, Cell::decode).map(Item::Cell),
-            _ => Unknown::of(field).map(Item::Unknown),
+        if field.id != listed.id {
+            return Unknown::of(field).map(Item::Unknown);
+        }
+        whole(field.value, |cursor| Cell::decode(listed, cursor)).map(Item::Cell)
+    }
+
+    pub fn cell(&self) -> Option<&Cell<'a>> {
+        match self {
+            Item::Cell(cell) => Some(cell),
+            Item::Unknown(_) => None,
         }
     }
 }
@@ -190,15 +190,19 @@ pub(super) struct Cell<'a> {
     /// NR CGI.
     pub identity: u64,
     pub identity_extensions: Vec<Unknown<'a>>,
+    /// Of broadcasts; 0 where the items have none.
+    pub count: u64,
     pub extensions: Vec<Unknown<'a>>,
 }
 
 impl<'a> Cell<'a> {
-    fn decode(cursor: &mut Cursor<'a>) -> Option<Cell<'a>> {
+    fn decode(listed: Listed, cursor: &mut Cursor<'a>) -> Option<Cell<'a>> {
         cursor.not_extended()?;
         let extended = cursor.bit()?;
         let (identity, identity_extensions) = identity(cursor)?;
-        Some(Cell { identity, identity_extensions, extensions: extensions(extended, cursor)? })
+        let count = if listed.is_counted { cursor.whole_number(COUNTS)? } else { 0 };
+        let extensions = extensions(extended, cursor)?;
+        Some(Cell { identity, identity_extensions, count, extensions })
     }
 }
 
@@ -216,5 +220,5 @@ fn extensions<'a>(present: bool, cursor: &mut Cursor<'a>) -> Option<Vec<Unknown<
     if !present {
         return Some(Vec::new());
     }
-    cursor.sequence_of(1..=MOST_EXTENSIONS, |cursor| Unknown::of(Field::decode(cursor)?))
+    cursor.sequence_of(EXTENSIONS, |cursor| Unknown::of(Field::decode(cursor)?))
 }

@@ -1,28 +1,50 @@
-//! How X.691's aligned variant encodes the types that F1AP's warning messages are made of.
+//! How X.691's aligned variant encodes the types that F1AP's warning messages are made of: read with
+//! a cursor, and written with a pen.
 
 use std::ops::RangeInclusive;
 
 use super::cursor::Cursor;
+use super::pen::Pen;
 
-impl<'a> Cursor<'a> {
-    /// A constrained whole number: of up to 255 values the fewest bits, where they happen to stand;
-    /// of 256 an octet and of up to 65,536 two, behind padding. The bits may say more than there
-    /// are values.
-    pub fn whole_number(&mut self, range: RangeInclusive<u64>) -> Option<u64> {
-        let above_least = match range.end() - range.start() {
-            last @ 0..=254 => self.bits(u64::BITS - last.leading_zeros())?,
-            255 => self.aligned(8)?,
+/// How many bits there are, and whether they stand behind padding or where they happen to.
+struct Room {
+    width: u32,
+    is_aligned: bool,
+}
+
+impl Room {
+    /// Of a constrained whole number: of up to 255 values the fewest bits, where they happen to
+    /// stand; of 256 an octet and of up to 65,536 two, behind padding.
+    fn of_number(range: &RangeInclusive<u64>) -> Room {
+        match range.end() - range.start() {
+            last @ 0..=254 => Room { width: u64::BITS - last.leading_zeros(), is_aligned: false },
+            255 => Room { width: 8, is_aligned: true },
             last => {
                 assert!(last <= 65_535, "no type of these messages has more values");
-                self.aligned(16)?
+                Room { width: 16, is_aligned: true }
             }
-        };
-        Some(range.start() + above_least).filter(|number| range.contains(number))
+        }
     }
 
-    fn aligned(&mut self, width: u32) -> Option<u64> {
-        self.align()?;
-        self.bits(width)
+    /// Of a string of this size and no other, which has no length. Of bits or of octets, up to two
+    /// octets stand where they happen to.
+    fn of_string(width: u32) -> Room {
+        Room { width, is_aligned: width > 16 }
+    }
+}
+
+impl<'a> Cursor<'a> {
+    fn room(&mut self, room: Room) -> Option<u64> {
+        if room.is_aligned {
+            self.align()?;
+        }
+        self.bits(room.width)
+    }
+
+    /// A constrained whole number. The bits may say more than there are values.
+    pub fn whole_number(&mut self, range: RangeInclusive<u64>) -> Option<u64> {
+        let above_least = self.room(Room::of_number(&range))?;
+        Some(range.start() + above_least).filter(|number| range.contains(number))
     }
 
     /// The bit of a type that may be extended. Document 02 takes none that is.
@@ -30,20 +52,13 @@ impl<'a> Cursor<'a> {
         (!self.bit()?).then_some(())
     }
 
-    /// A bit string of this size and no other has no length.
     pub fn bit_string(&mut self, size: u32) -> Option<u64> {
-        if size > 16 {
-            self.align()?;
-        }
-        self.bits(size)
+        self.room(Room::of_string(size))
     }
 
-    /// An octet string of this size and no other, as a number.
+    /// As a number.
     pub fn octet_string(&mut self, size: u32) -> Option<u64> {
-        if size > 2 {
-            self.align()?;
-        }
-        self.bits(8 * size)
+        self.room(Room::of_string(8 * size))
     }
 
     /// A length in the one form that it has. From 16,384 on that is in fragments, and document 02
@@ -72,6 +87,61 @@ impl<'a> Cursor<'a> {
     ) -> Option<Vec<T>> {
         let count = self.whole_number(size)?;
         (0..count).map(|_| one(self)).collect()
+    }
+}
+
+impl Pen {
+    fn room(&mut self, room: Room, number: u64) {
+        if room.is_aligned {
+            self.align();
+        }
+        self.bits(room.width, number);
+    }
+
+    /// A number of the range.
+    pub fn whole_number(&mut self, range: RangeInclusive<u64>, number: u64) {
+        self.room(Room::of_number(&range), number - range.start());
+    }
+
+    pub fn not_extended(&mut self) {
+        self.bits(1, 0);
+    }
+
+    /// The lower bits of a number.
+    pub fn bit_string(&mut self, size: u32, number: u64) {
+        self.room(Room::of_string(size), number);
+    }
+
+    /// The lower octets of a number.
+    pub fn octet_string(&mut self, size: u32, number: u64) {
+        self.room(Room::of_string(8 * size), number);
+    }
+
+    /// "shortest lengths" are in one octet up to 127, and in two up to 16,383.
+    fn length(&mut self, length: usize) {
+        assert!(length < 1 << 14, "nothing that is written is as long as a fragment");
+        self.align();
+        match length {
+            0..=127 => self.bits(8, length as u64),
+            _ => self.bits(16, 1 << 15 | length as u64),
+        }
+    }
+
+    /// An open type with these contents, which are an encoding of their own.
+    pub fn open_type(&mut self, contents: &[u8]) {
+        self.length(contents.len());
+        self.octets(contents);
+    }
+
+    /// All of one type, back to back; as many as this size allows.
+    pub fn sequence_of<T>(
+        &mut self,
+        size: RangeInclusive<u64>,
+        all: &[T],
+        mut one: impl FnMut(&mut Self, &T),
+    ) {
+        self.whole_number(size, all.len() as u64);
+        all.iter().for_each(|it| one(self, it));
     }
 }
 
@@ -158,6 +228,37 @@ mod tests {
         assert_eq!(read(&[0, 1, 7]), None);
         assert_eq!(read(&[0, 1, 7, 9, 0]), None);
         assert_eq!(read(&[2, 0, 7]), None);
+    }
+
+    #[test]
+    fn what_is_written_reads_back() {
+        for range in [5..=5, 0..=2, 3..=257, 0..=255, 1..=512, 0..=65_535] {
+            for number in [*range.start(), range.start() + (range.end() - range.start()) / 3]
+                .into_iter()
+                .chain([*range.end()])
+            {
+                let written = Pen::written(|pen| {
+                    pen.not_extended();
+                    pen.whole_number(range.clone(), number);
+                    pen.octet_string(3, 0x010203);
+                    pen.bit_string(16, 0xa5a5);
+                    pen.bit_string(36, number);
+                    pen.open_type(&vec![7; number as usize % 16_383 + 1]);
+                });
+                let read = whole(&written, |cursor| {
+                    cursor.not_extended()?;
+                    assert_eq!(cursor.whole_number(range.clone()), Some(number));
+                    assert_eq!(cursor.octet_string(3), Some(0x010203));
+                    assert_eq!(cursor.bit_string(16), Some(0xa5a5));
+                    assert_eq!(cursor.bit_string(36), Some(number));
+                    cursor.open_type()
+                });
+                assert_eq!(read, Some(&vec![7; number as usize % 16_383 + 1][..]));
+            }
+        }
+        let list =
+            Pen::written(|pen| pen.sequence_of(1..=512, &[7, 9], |pen, it| pen.bits(8, *it)));
+        assert_eq!(list, [0, 1, 7, 9]);
     }
 
     #[test]
