@@ -11,54 +11,17 @@ mod pws;
 #[cfg(pws)]
 mod surface;
 
-use comparison::broken::broken_units;
-use comparison::broken_conversions::broken_in_conversions;
-use comparison::broken_segments::broken_in_segments;
 use comparison::call::Call;
-use comparison::cases::{Cases, Compared};
-use comparison::compare::{Compare, Difference};
+use comparison::compare::Difference;
 use comparison::reorder::{reorder, Reordered};
+use comparison::runs::*;
 use comparison::unit::{Functions, Unit, SOUND};
-use comparison::wire::broken::{broken_in_cancels, FAULTLESS};
+use comparison::wire::broken::FAULTLESS;
 use given::random::{say, seed, Random};
 
 /// A single fault must show within so many calls.
 const CALLS_TO_FIND_A_FAULT: u64 = 30_000;
 const SEQUENCES: usize = 2_000;
-
-type Named<'a> = (&'a str, &'a dyn Unit);
-
-/// One kind of calls on two units.
-#[derive(Clone, Copy)]
-struct Run {
-    /// What it adds to the name of a comparison.
-    of: &'static str,
-    /// As many as show that two units agree.
-    calls: u64,
-    /// Makes at least so many calls.
-    make: fn(&mut Cases, u64) -> Compared,
-}
-
-const DOCUMENT_01: Run = Run { of: "", calls: 300_000, make: |cases, calls| cases.run(calls) };
-const SEGMENTS: Run =
-    Run { of: ", segments", calls: 60_000, make: |cases, calls| cases.run_segments(calls) };
-const CONVERSIONS: Run =
-    Run { of: ", conversions", calls: 60_000, make: |cases, calls| cases.run_conversions(calls) };
-const CANCELS: Run = Run {
-    of: ", cancels from the wire",
-    calls: 250_000,
-    make: |cases, calls| cases.run_cancels(calls),
-};
-/// As many calls as that takes.
-const LARGEST_PERIOD: Run =
-    Run { of: ", the largest period", calls: 0, make: |cases, _| cases.run_largest_period() };
-
-/// How many calls were made, and the first difference if there is one.
-fn compared(run: Run, units: [Named; 2], seed: u64, calls: u64) -> (u64, Compared) {
-    let mut cases = Cases { compare: Compare::new(units), random: Random::new(seed) };
-    let outcome = (run.make)(&mut cases, calls);
-    (cases.compare.calls, outcome)
-}
 
 fn keeps_demand_3(unit: &dyn Unit, seed: u64) -> Result<Reordered, Difference> {
     let mut random = Random::new(seed);
@@ -73,7 +36,7 @@ fn keeps_demand_3(unit: &dyn Unit, seed: u64) -> Result<Reordered, Difference> {
 fn assert_agrees(name: &str, run: Run, unit: &dyn Unit) {
     let name = &format!("{name}{}", run.of);
     let seed = seed(name);
-    let (calls, outcome) = compared(run, [("second", &SOUND), (name, unit)], seed, run.calls);
+    let (calls, outcome) = run.compared([("second", &SOUND), (name, unit)], seed, run.calls);
     say(&format!("{name}: {calls} calls compared"));
     if let Err(difference) = outcome {
         panic!("{difference}");
@@ -105,6 +68,11 @@ fn conversions_of_second_agree_with_itself() {
 #[test]
 fn cancels_from_the_wire_of_second_agree_with_itself() {
     assert_agrees("second", CANCELS, &SOUND);
+}
+
+#[test]
+fn responses_on_the_wire_of_second_agree_with_itself() {
+    assert_agrees("second", RESPONSES, &SOUND);
 }
 
 #[test]
@@ -143,6 +111,12 @@ fn cancels_from_the_wire_of_the_c_library_agree_with_second() {
 
 #[cfg(pws)]
 #[test]
+fn responses_on_the_wire_of_the_c_library_agree_with_second() {
+    assert_agrees("libpws.a", RESPONSES, &pws::library());
+}
+
+#[cfg(pws)]
+#[test]
 fn the_largest_period_is_the_same_in_the_c_library() {
     assert_agrees("libpws.a", LARGEST_PERIOD, &pws::library());
 }
@@ -159,11 +133,11 @@ fn the_c_library_is_skipped() {
     say("libpws.a: SKIPPED, for PWS_LIB_DIR names no folder with a libpws.a");
 }
 
-fn assert_each_is_found(run: Run, broken: Vec<(&str, Functions)>) {
+fn assert_each_is_found(run: Run) {
     let seed = seed(&format!("faults{}", run.of));
-    for (name, unit) in broken {
+    for (name, unit) in (run.broken)() {
         let units: [Named; 2] = [("second", &SOUND), (name, &unit)];
-        let (calls, outcome) = compared(run, units, seed, CALLS_TO_FIND_A_FAULT);
+        let (calls, outcome) = run.compared(units, seed, CALLS_TO_FIND_A_FAULT);
         assert!(outcome.is_err(), "{name}: not found within {calls} calls");
         println!("{name}: found by call {calls}");
     }
@@ -171,109 +145,57 @@ fn assert_each_is_found(run: Run, broken: Vec<(&str, Functions)>) {
 
 #[test]
 fn each_single_fault_is_found() {
-    assert_each_is_found(DOCUMENT_01, broken_units());
+    assert_each_is_found(DOCUMENT_01);
 }
 
 #[test]
 fn each_single_fault_in_segments_is_found() {
-    assert_each_is_found(SEGMENTS, broken_in_segments());
+    assert_each_is_found(SEGMENTS);
 }
 
 #[test]
 fn each_single_fault_in_conversions_is_found() {
-    assert_each_is_found(CONVERSIONS, broken_in_conversions());
+    assert_each_is_found(CONVERSIONS);
 }
 
-/// So that what is found of the reader with faults is its fault.
+/// So that what is found of the readers and the writer with faults is their fault.
 #[test]
 fn without_a_fault_the_reader_of_cancels_agrees() {
     assert_agrees("the reader without a fault", CANCELS, &FAULTLESS);
 }
 
 #[test]
-fn each_single_fault_in_cancels_from_the_wire_is_found() {
-    assert_each_is_found(CANCELS, broken_in_cancels());
+fn without_a_fault_the_reader_and_the_writer_of_responses_agree() {
+    assert_agrees("the reader and the writer without a fault", RESPONSES, &FAULTLESS);
 }
 
-fn broken_unit(fault: &str) -> Functions {
-    let mut units = broken_units();
-    units.extend(broken_in_segments());
-    units.extend(broken_in_conversions());
-    units.extend(broken_in_cancels());
-    let mut units = units.into_iter();
+#[test]
+fn each_single_fault_in_cancels_from_the_wire_is_found() {
+    assert_each_is_found(CANCELS);
+}
+
+#[test]
+fn each_single_fault_in_responses_on_the_wire_is_found() {
+    assert_each_is_found(RESPONSES_WRITTEN);
+    assert_each_is_found(RESPONSES_READ);
+}
+
+/// The unit with a fault of this run's, or with one of document 01's.
+fn broken_unit(run: Run, fault: &str) -> Functions {
+    let mut units = (run.broken)().into_iter().chain((DOCUMENT_01.broken)());
     units.find(|(name, _)| *name == fault).expect("the fault is listed").1
 }
-
-/// Whether a fault is found where both units have it.
-fn is_found_in_both(run: Run, fault: &str, seed: u64) -> bool {
-    let unit = broken_unit(fault);
-    compared(run, [(fault, &unit), (fault, &unit)], seed, CALLS_TO_FIND_A_FAULT).1.is_err()
-}
-
-/// Faults that a run finds though both units have them: they break a promise of every call, what is
-/// converted does not run as what it was, or what is read from the wire is not what was meant.
-const FOUND_IN_BOTH: [(Run, &[&str]); 4] = [
-    (
-        DOCUMENT_01,
-        &[
-            "an unmatched list is no list",
-            "a code matches in every PLMN",
-            "the byte behind the answer is zeroed",
-            "a refusal clears the answer",
-            "a full cell fails the request",
-            "a refused reading has its fields",
-            "the record's rest is cleared",
-        ],
-    ),
-    (
-        SEGMENTS,
-        &[
-            "a length is little-endian",
-            "the neighbour is read",
-            "a part lies in the other buffer",
-            "the first one is behind a length",
-            "a refused part has a place",
-            "a packed length is little-endian",
-            "the byte behind the list is zeroed",
-            "a refusal clears the list",
-        ],
-    ),
-    (
-        CONVERSIONS,
-        &[
-            "a converted text has sent nothing",
-            "a converted wait is a second less",
-            "a version 2 table is converted too",
-            "the old table has the new limit",
-            "the byte behind the converted table is zeroed",
-            "a refusal clears the table",
-            "a broadcast waits a second too few",
-            "places close up in the wrong order",
-        ],
-    ),
-    (
-        CANCELS,
-        &[
-            "the padding of the choice is not judged",
-            "a short length in two bytes is read",
-            "the first problem is given",
-            "an unknown element ends the elements",
-            "an item of another kind is skipped",
-            "a known element must be marked reject",
-            "the record has version 1",
-            "the byte behind the cancel is zeroed",
-            "a refused message clears the record",
-            "a refused message has its transaction",
-        ],
-    ),
-];
 
 #[test]
 fn a_broken_promise_is_found_where_both_units_break_it() {
     let seed = seed("promises");
-    for (run, faults) in FOUND_IN_BOTH {
-        for fault in faults {
-            assert!(is_found_in_both(run, fault, seed), "{fault}: not found");
+    let runs = [DOCUMENT_01, SEGMENTS, CONVERSIONS, CANCELS, RESPONSES_WRITTEN, RESPONSES_READ];
+    for run in runs {
+        for fault in run.found_in_both {
+            let unit = broken_unit(run, fault);
+            let units: [Named; 2] = [(fault, &unit), (fault, &unit)];
+            let (_, outcome) = run.compared(units, seed, CALLS_TO_FIND_A_FAULT);
+            assert!(outcome.is_err(), "{fault}: not found");
         }
     }
 }
@@ -282,7 +204,8 @@ fn a_broken_promise_is_found_where_both_units_break_it() {
 fn faults_of_reach_break_demand_3() {
     let seed = seed("faults, demand 3");
     for fault in ["an unmatched list is no list", "a code matches in every PLMN"] {
-        assert!(keeps_demand_3(&broken_unit(fault), seed).is_err(), "{fault}: not found");
+        let unit = broken_unit(DOCUMENT_01, fault);
+        assert!(keeps_demand_3(&unit, seed).is_err(), "{fault}: not found");
     }
 }
 

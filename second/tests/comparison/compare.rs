@@ -99,15 +99,25 @@ impl<'a> Compare<'a> {
         }
     }
 
-    /// What reading a message returns, and the buffer as the call leaves it.
-    pub fn read_cancel(
-        &mut self,
-        message: &[u8],
-        record: Vec<u8>,
-    ) -> Result<(Message, Vec<u8>), Difference> {
-        match self.call(Call::ReadCancel { message: message.to_vec(), record })? {
-            Outcome::ReadCancel { returned, record } => Ok((returned, record)),
+    /// What a call that reads a message returns, and the buffer as it leaves it.
+    pub fn read_message(&mut self, call: Call) -> Result<(Message, Vec<u8>), Difference> {
+        match self.call(call)? {
+            Outcome::ReadCancel { returned, record: buffer }
+            | Outcome::ReadResponse { returned, answer: buffer } => Ok((returned, buffer)),
             other => Err(format!("reading a message had the outcome {other}")),
+        }
+    }
+
+    /// What writing a response returns, and the buffer as the call leaves it.
+    pub fn write_response(
+        &mut self,
+        answer: &[u8],
+        transaction: u8,
+        message: Vec<u8>,
+    ) -> Result<(Done, Vec<u8>), Difference> {
+        match self.call(Call::WriteResponse { answer: answer.to_vec(), transaction, message })? {
+            Outcome::WriteResponse { returned, message } => Ok((returned, message)),
+            other => Err(format!("writing a response had the outcome {other}")),
         }
     }
 

@@ -17,6 +17,8 @@ macro_rules! entry_points {
             Segment = segment(first: *const u8, first_length: usize, more: *const u8, more_length: usize, k: usize) -> Part;
             Pack = pack(bytes: *const u8, bytes_length: usize, lengths: *const u64, count: usize, list: *mut u8, list_length: usize) -> Done;
             ReadCancel = read_cancel(message: *const u8, message_length: usize, record: *mut u8, record_length: usize) -> Message;
+            WriteResponse = write_response(answer: *const u8, answer_length: usize, transaction: u8, message: *mut u8, message_length: usize) -> Done;
+            ReadResponse = read_response(message: *const u8, message_length: usize, answer: *mut u8, answer_length: usize) -> Message;
         }
     };
 }

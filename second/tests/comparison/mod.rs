@@ -16,6 +16,7 @@ pub mod part;
 mod periods;
 mod promises;
 pub mod reorder;
+pub mod runs;
 pub mod segments;
 pub mod spoiled;
 mod starts;

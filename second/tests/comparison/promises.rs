@@ -1,8 +1,8 @@
 //! What the documents promise of the bytes of every call, whatever happens in a cell: a look of its
 //! own at outcomes on which two units agree.
 
-use second::request::CANCEL;
-use second::{Area, Cell, Done, Head, Layout, Message, Reading, Record, Table};
+use second::request::{CANCEL, WRITE_REPLACE};
+use second::{Answer, Area, Cell, Done, Head, Layout, Message, Reading, Record, Row, Table};
 
 use super::call::{Call, Outcome};
 use super::part::Part;
@@ -26,7 +26,12 @@ pub fn are_kept(call: &Call, outcome: &Outcome) -> bool {
         (Call::Segment { first, more, k }, Outcome::Segment { returned }) => {
             lies_where_told(first, more, *k, returned)
         }
-        (_, Outcome::ReadCancel { returned, record }) => is_a_cancel(returned, record),
+        (_, Outcome::ReadCancel { returned, record }) => {
+            is_read(returned) && (returned.number != 0 || is_a_cancel(&record[..returned.length]))
+        }
+        (_, Outcome::ReadResponse { returned, answer }) => {
+            is_read(returned) && (returned.number != 0 || is_a_reply(&answer[..returned.length]))
+        }
         _ => true,
     };
     rest_stays(call, outcome) && own_are_kept()
@@ -69,18 +74,32 @@ fn all_is_carried(done: &Done, old: &[u8], table: &[u8]) -> bool {
     done.number != 0 || old.is_ok() && old == Table::parse(&table[..done.length])
 }
 
-/// "The result is a Cancel record plus the transaction identifier", which is a byte on the wire; a
-/// refusal has neither.
-fn is_a_cancel(message: &Message, record: &[u8]) -> bool {
-    let Message { number, transaction, length } = *message;
-    let written = || record.get(..length).and_then(|written| Record::parse(written).ok());
-    if number != 0 {
-        return *message == Message { number, ..Message::default() };
+/// A transaction identifier is a byte on the wire; a refusal has neither it nor a length.
+fn is_read(message: &Message) -> bool {
+    let refused = Message { number: message.number, ..Message::default() };
+    if message.number == 0 {
+        message.transaction <= 255
+    } else {
+        *message == refused
     }
-    let is_current = || record.get(3..5) == Some(&Layout::CURRENT.version.to_be_bytes());
-    transaction <= 255
-        && is_current()
-        && written().is_some_and(|record| record.request.kind == CANCEL)
+}
+
+/// "The result is a Cancel record"
+fn is_a_cancel(record: &[u8]) -> bool {
+    record.get(3..5) == Some(&Layout::CURRENT.version.to_be_bytes())
+        && Record::parse(record).is_ok_and(|record| record.request.kind == CANCEL)
+}
+
+/// "writes an answer with message identifier and serial number 0", which a start or a cancel could
+/// have.
+fn is_a_reply(answer: &[u8]) -> bool {
+    let Some(Answer { kind, identifier: 0, serial: 0, rows }) = Answer::parse(answer) else {
+        return false;
+    };
+    let is_possible = |row: &Row| row.content == 0 && (kind == CANCEL || row.count.0 == 0);
+    (kind == CANCEL || kind == WRITE_REPLACE)
+        && rows.iter().all(is_possible)
+        && rows.windows(2).all(|pair| pair[0].identity < pair[1].identity)
 }
 
 /// "A refusal hands back an empty part"; any other is the first buffer, whole, or lies in the list

@@ -68,6 +68,8 @@ fn a_call_reads_back_from_its_text() {
         Call::Pack { bytes: vec![7], lengths: vec![1, u64::MAX], list: vec![] },
         Call::Convert { old: vec![0x50], table: vec![] },
         Call::ReadCancel { message: vec![0, 21, 0], record: vec![] },
+        Call::WriteResponse { answer: vec![0x50], transaction: 255, message: vec![] },
+        Call::ReadResponse { message: vec![0x40, 20], answer: vec![7] },
     ] {
         assert_eq!(Call::parse(&call.to_string()), Some(call));
     }

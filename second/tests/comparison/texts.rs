@@ -36,15 +36,21 @@ impl Argument for Vec<u64> {
     }
 }
 
-impl Argument for usize {
-    fn text(&self) -> String {
-        self.to_string()
-    }
+macro_rules! numbers {
+    ($($number:ident)*) => {
+        $(impl Argument for $number {
+            fn text(&self) -> String {
+                self.to_string()
+            }
 
-    fn parse(word: &str) -> Option<usize> {
-        word.parse().ok()
-    }
+            fn parse(word: &str) -> Option<$number> {
+                word.parse().ok()
+            }
+        })*
+    };
 }
+
+numbers! { u8 usize }
 
 /// Kind, flags, area, identifier, serial number, content, period, requested, SIB kind.
 impl Argument for Request {

@@ -48,4 +48,6 @@ pub const SOUND: Functions = Functions {
     segment: part::segment,
     pack: second::pack,
     read_cancel: second::read_cancel,
+    write_response: second::write_response,
+    read_response: second::read_response,
 };

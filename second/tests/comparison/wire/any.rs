@@ -3,45 +3,10 @@
 
 use second::CellIdentity;
 
+use super::answers::{rows, told};
+use super::forms::{Form, Place, CANCEL, CANCELLED, COMPLETED};
 use super::messages::*;
 use crate::given::random::Random;
-
-/// Known nowhere, or at another place than the one where they are put.
-const ANYWHERE: [u16; 10] = [0, 7, 77, 79, 150, 189, 500, 999, NID, 65_535];
-const ELEMENTS: [u16; 5] = [TRANSACTION, REQUESTED, LIST, CANCEL_ALL, NOTIFICATION];
-
-/// What a list of fields is, by what is known in it.
-#[derive(Clone, Copy, Debug, PartialEq, Eq)]
-pub enum Place {
-    Elements,
-    Items,
-    Extensions,
-}
-
-impl Place {
-    /// Identifiers that are not known here.
-    pub fn unknown(self) -> Vec<u16> {
-        let elsewhere: &[u16] = match self {
-            Place::Elements => &[ITEM],
-            Place::Items => &ELEMENTS,
-            Place::Extensions => &[TRANSACTION, REQUESTED, LIST, ITEM, CANCEL_ALL, NOTIFICATION],
-        };
-        [&ANYWHERE[..], elsewhere].concat()
-    }
-
-    /// Of each list of a message, in the order of their numbers.
-    pub fn all(frame: &Frame) -> Vec<Place> {
-        let within = |element: &Field| match &element.value {
-            Value::Cells(items) => {
-                let cells = items.iter().filter(|item| matches!(item.value, Value::Cell { .. }));
-                [vec![Place::Items], vec![Place::Extensions; 2 * cells.count()]].concat()
-            }
-            Value::Notification { .. } => vec![Place::Extensions],
-            _ => Vec::new(),
-        };
-        [vec![Place::Elements], frame.elements.iter().flat_map(within).collect()].concat()
-    }
-}
 
 pub fn number(random: &mut Random) -> u16 {
     random.pick_or_any(&[0, 1, 16, 255, 256, 4370, 32_768, 65_535], 16) as u16
@@ -54,14 +19,14 @@ pub fn identity(random: &mut Random) -> u64 {
 }
 
 /// One that is not known in such a list.
-pub fn unknown(random: &mut Random, place: Place, criticality: u8) -> Field {
-    let id = random.pick(&place.unknown());
+fn unknown(random: &mut Random, form: &Form, place: Place, criticality: u8) -> Field {
+    let id = random.pick(&place.unknown(form));
     let length = random.pick(&[1, 1, 1, 2, 2, 3, 9, 40, 127, 128, 129]);
     Field::unknown(id, criticality, &random.bytes(length))
 }
 
 /// How many cells a list has: mostly few.
-fn cells(random: &mut Random) -> usize {
+pub fn cells(random: &mut Random) -> usize {
     match random.below(24) {
         0 => random.pick(&[255, 256, 257, 511, 512]),
         1 => 1 + random.below(64),
@@ -69,9 +34,8 @@ fn cells(random: &mut Random) -> usize {
     }
 }
 
-/// A message that is read, or refused with 7: known elements in their order, whatever their
-/// criticality, and others between them that are skipped.
-pub fn message(random: &mut Random) -> Frame {
+/// A cancel that is read, or refused with 7.
+pub fn cancel(random: &mut Random) -> Frame {
     let mut elements =
         vec![Field::transaction(random.number() as u8), Field::requested(number(random))];
     if random.one_in(2) {
@@ -85,19 +49,38 @@ pub fn message(random: &mut Random) -> Frame {
     if indicators & 2 != 0 {
         elements.push(Field::notification(number(random), number(random)));
     }
-    let mut frame = Frame::of(elements);
+    among_others(random, &CANCEL, elements)
+}
+
+/// A response that is read, or refused with 17.
+pub fn response(random: &mut Random) -> Frame {
+    let (kind, rows) = (random.pick(&[1, 2]), rows(random));
+    let mut told = told(random, kind, rows);
+    if random.one_in(8) && rows > 1 {
+        let (one, other) = (random.below(rows), random.below(rows));
+        told.rows[one].0 = told.rows[other].0;
+    }
+    let Frame { elements, .. } = told.response(random.number() as u8);
+    among_others(random, if kind == 1 { &COMPLETED } else { &CANCELLED }, elements)
+}
+
+/// Known elements in their order, whatever their criticality, and others between them that are
+/// skipped.
+fn among_others(random: &mut Random, form: &Form, elements: Vec<Field>) -> Frame {
+    let mut frame = Frame::of(form, elements);
     frame.criticality = random.below(3) as u8;
     if random.one_in(2) {
         mark_known(random, &mut frame.elements);
     }
     for _ in 0..random.pick(&[0, 0, 0, 1, 2, 5]) {
-        skipped(random, &mut frame);
+        let criticality = random.pick(&[IGNORE, NOTIFY]);
+        insert(random, form, &mut frame, |place| place != Place::Items, criticality);
     }
     frame
 }
 
 /// Gives known elements and items any criticality.
-pub fn mark_known(random: &mut Random, fields: &mut [Field]) {
+fn mark_known(random: &mut Random, fields: &mut [Field]) {
     for field in fields {
         field.criticality = random.below(4) as u8;
         if let Value::Cells(items) = &mut field.value {
@@ -106,21 +89,21 @@ pub fn mark_known(random: &mut Random, fields: &mut [Field]) {
     }
 }
 
-/// Puts one more that is skipped into any list but that of the items.
-fn skipped(random: &mut Random, frame: &mut Frame) {
-    let criticality = random.pick(&[IGNORE, NOTIFY]);
-    insert(random, frame, |place| place != Place::Items, criticality);
-}
-
 /// Puts an unknown one at any place of any such list, if there is one.
-pub fn insert(random: &mut Random, frame: &mut Frame, such: fn(Place) -> bool, criticality: u8) {
+pub fn insert(
+    random: &mut Random,
+    form: &Form,
+    frame: &mut Frame,
+    such: fn(Place) -> bool,
+    criticality: u8,
+) {
     let places: Vec<(usize, Place)> =
         Place::all(frame).into_iter().enumerate().filter(|(_, place)| such(*place)).collect();
     if places.is_empty() {
         return;
     }
     let (k, place) = random.pick(&places);
-    let field = unknown(random, place, criticality);
+    let field = unknown(random, form, place, criticality);
     let list = frame.list(k).expect("the list is numbered");
     list.insert(random.below(list.len() + 1), field);
 }

@@ -2,24 +2,22 @@
 //! the sound one, so that what is found is the fault.
 
 use second::request::CANCEL;
-use second::{Message, Request};
+use second::Request;
 
 use super::broken::Fault;
-use super::faulty_record::laid;
-use super::messages::{CANCEL_ALL, ITEM, LIST, NOTIFICATION, REQUESTED, TRANSACTION};
+use super::forms::Form;
 
-pub const IN_ORDER: [u16; 5] = [TRANSACTION, REQUESTED, LIST, CANCEL_ALL, NOTIFICATION];
-
-/// What was found before the record is written.
+/// What was found before something is written.
 #[derive(Clone, Default)]
 pub struct Found {
     pub transaction: u32,
     pub request: Request,
-    pub cells: Vec<u64>,
+    /// With counts, which are 0 where there are none.
+    pub cells: Vec<(u64, u16)>,
     /// Refusals 15 and 16 in the order in which they were met.
     pub problems: Vec<u32>,
     /// Places of known elements, and identifiers of unknown ones.
-    known: Vec<usize>,
+    pub known: Vec<usize>,
     pub unknown: Vec<u16>,
     /// An unknown element has ended the elements.
     pub ended: bool,
@@ -27,6 +25,9 @@ pub struct Found {
 
 pub struct Reader {
     pub fault: Fault,
+    pub forms: &'static [Form],
+    /// The one that is read.
+    pub form: &'static Form,
     pub found: Found,
 }
 
@@ -59,15 +60,17 @@ pub fn pair(rest: &mut &[u8]) -> Option<u16> {
     take(rest, 2).map(|part| u16::from_be_bytes([part[0], part[1]]))
 }
 
-pub fn read(fault: Fault, message: &[u8], record: &mut [u8]) -> Message {
+/// What is found in a message, and its refusal up to 16.
+pub fn read(fault: Fault, forms: &'static [Form], message: &[u8]) -> (Reader, u32) {
     let request = Request { kind: CANCEL, ..Request::default() };
-    let mut reader = Reader { fault, found: Found { request, ..Found::default() } };
+    let found = Found { request, ..Found::default() };
+    let mut reader = Reader { fault, forms, form: &forms[0], found };
     let number = match reader.frame(message) {
         Some(0) => reader.judgement(),
         Some(other) => other,
         None => reader.badly_encoded(),
     };
-    laid(&reader, number, record)
+    (reader, number)
 }
 
 impl Reader {
@@ -91,8 +94,15 @@ impl Reader {
     }
 
     fn judgement(&mut self) -> u32 {
-        let missing = |place, fault| !self.found.known.contains(&place) && !self.has(fault);
-        if missing(0, Fault::NoTransaction) || missing(1, Fault::NoRequested) {
+        let may_be_missing = match self.fault {
+            Fault::NoTransaction => Some(0),
+            Fault::NoRequested => Some(1),
+            _ => None,
+        };
+        let asked = self.form.mandatory + usize::from(self.has(Fault::ListIsMandatory));
+        let is_missing =
+            |place| !self.found.known.contains(&place) && may_be_missing != Some(place);
+        if (0..asked).any(is_missing) {
             self.found.problems.push(16);
         }
         let problems = &self.found.problems;
@@ -112,16 +122,11 @@ impl Reader {
         self.asked(head & 0x3f == 0, Fault::ChoicePadding)?;
         let is_long = head >> 6 == 3 && !self.has(Fault::ChoiceExtensionOfAByte);
         let code = if is_long { pair(&mut rest)? } else { byte(&mut rest)?.into() };
-        let is_choice = head >> 6 == 0
-            || self.has(Fault::AnyChoice)
-            || self.has(Fault::CodeOfTwoBytes) && is_long;
-        let is_code = code == 21
-            || self.has(Fault::AnyCode)
-            || self.has(Fault::CodeOfTwoBytes) && is_long && code & 255 == 21;
-        let is_other = !is_choice || !is_code;
-        if is_other && self.has(Fault::FourteenFirst) {
+        let form = self.forms.iter().find(|form| self.takes(form, head >> 6, code));
+        if form.is_none() && self.has(Fault::FourteenFirst) {
             return Some(14);
         }
+        self.form = form.unwrap_or(self.form);
         let marks = byte(&mut rest)?;
         self.asked(marks & 0x3f == 0, Fault::FramePadding)?;
         self.asked(marks >> 6 < 3, Fault::FrameCriticality3)?;
@@ -131,10 +136,17 @@ impl Reader {
         self.asked(length > 0, Fault::EmptyFrame)?;
         let value = take(&mut rest, length)?;
         self.asked(rest.is_empty(), Fault::BehindMessage)?;
-        if !is_other || self.has(Fault::OthersAreJudged) {
+        if form.is_some() || self.has(Fault::OthersAreJudged) {
             self.elements(value)?;
         }
-        Some(if is_other { 14 } else { 0 })
+        Some(if form.is_some() { 0 } else { 14 })
+    }
+
+    fn takes(&self, form: &Form, choice: u8, code: u16) -> bool {
+        let is_long = choice == 3 && self.has(Fault::CodeOfTwoBytes);
+        let is_choice = choice == form.choice || self.has(Fault::AnyChoice) || is_long;
+        let is_code = code == form.code || self.has(Fault::AnyCode);
+        is_choice && (is_code || is_long && code & 255 == form.code)
     }
 
     fn length(&self, rest: &mut &[u8]) -> Option<usize> {
@@ -170,8 +182,8 @@ impl Reader {
         let id = pair(rest)?;
         let marks = byte(rest)?;
         let is_known = match place {
-            Place::Element => IN_ORDER.contains(&id),
-            Place::Item => id == ITEM,
+            Place::Element => self.form.elements.contains(&id),
+            Place::Item => id == self.form.item,
             _ => false,
         };
         let (padding, empty) = match place {
@@ -188,12 +200,19 @@ impl Reader {
 
     fn element(&mut self, rest: &mut &[u8]) -> Option<()> {
         let field = self.field(rest, Place::Element)?;
-        let place = IN_ORDER.iter().position(|id| *id == field.id);
-        let is_item = field.id == ITEM && self.has(Fault::ItemIsAnElement);
-        match place {
-            None if is_item => self.cell(field.value),
-            None => self.unknown(&field, Place::Element),
-            Some(place) => self.known(place, &field),
+        let place = self.form.elements.iter().position(|id| *id == field.id);
+        let is_item = field.id == self.form.item && self.has(Fault::ItemIsAnElement);
+        let other = self.forms.iter().find(|form| form.list() == field.id);
+        match (place, other) {
+            (Some(place), _) => self.known(place, &field),
+            (None, Some(form)) if self.has(Fault::OtherList) => {
+                let own = std::mem::replace(&mut self.form, form);
+                self.known(own.mandatory, &field)?;
+                self.form = own;
+                Some(())
+            }
+            (None, _) if is_item => self.cell(field.value),
+            (None, _) => self.unknown(&field, Place::Element),
         }
     }
 
@@ -218,7 +237,7 @@ impl Reader {
             return Some(());
         }
         let mut rest = field.value;
-        self.contents(place, &mut rest)?;
+        self.contents(field.id, &mut rest)?;
         self.asked(rest.is_empty(), Fault::BehindContents)
     }
 }

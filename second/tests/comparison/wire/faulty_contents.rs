@@ -4,27 +4,27 @@ use second::request::{CANCEL_ALL, IN_CELLS, NOTIFICATION};
 use second::Broadcasts;
 
 use super::broken::Fault;
-use super::faulty::{byte, pair, take, Field, Place, Reader, IN_ORDER};
-use super::messages::{ITEM, LIST, NID, REJECT};
+use super::faulty::{byte, pair, take, Field, Place, Reader};
+use super::messages::{self, DEDICATED_LIST, DIAGNOSTICS, NID, REJECT};
 
 impl Reader {
-    pub(super) fn contents(&mut self, place: usize, rest: &mut &[u8]) -> Option<()> {
-        match place {
-            0 => {
+    pub(super) fn contents(&mut self, id: u16, rest: &mut &[u8]) -> Option<()> {
+        match id {
+            messages::TRANSACTION => {
                 let head = byte(rest)?;
                 self.asked(head & 0x80 == 0, Fault::TransactionExtension)?;
                 self.asked(head & 0x7f == 0, Fault::TransactionPadding)?;
                 self.found.transaction = byte(rest)?.into();
             }
-            1 => self.found.request.requested = Broadcasts(pair(rest)?),
-            2 => self.cells(rest)?,
-            3 => {
+            messages::REQUESTED => self.found.request.requested = Broadcasts(pair(rest)?),
+            messages::CANCEL_ALL => {
                 let head = byte(rest)?;
                 self.asked(head & 0x80 == 0, Fault::AllExtension)?;
                 self.asked(head & 0x7f == 0, Fault::AllPadding)?;
                 self.found.request.flags |= CANCEL_ALL;
             }
-            _ => self.text(rest)?,
+            messages::NOTIFICATION => self.text(rest)?,
+            _ => self.cells(rest)?,
         }
         Some(())
     }
@@ -74,8 +74,9 @@ impl Reader {
 
     fn item(&mut self, rest: &mut &[u8]) -> Option<()> {
         let field = self.field(rest, Place::Item)?;
-        let is_list = field.id == LIST && self.has(Fault::ElementIsAnItem);
-        if field.id == ITEM || is_list {
+        let is_list = field.id == self.form.list() && self.has(Fault::ElementIsAnItem);
+        let is_others = self.forms.iter().any(|form| form.item == field.id);
+        if field.id == self.form.item || is_list || is_others && self.has(Fault::OtherItem) {
             let is_judged = self.has(Fault::ItemsCriticality3);
             (field.criticality < 3 || !is_judged).then_some(())?;
             return self.cell(field.value);
@@ -111,10 +112,27 @@ impl Reader {
             Fault::WideCell => bits & 0xff_ffff_ffff,
             _ => bits >> 4 & 0xf_ffff_ffff,
         };
-        self.found.cells.push(plmn << 36 | part);
-        self.extensions(head & 0x10 != 0, &mut rest, Place::IdentityExtension)?;
-        self.extensions(head & 0x40 != 0, &mut rest, Place::CellExtension)?;
+        let count = self.behind_identity(head, &mut rest)?;
+        self.found.cells.push((plmn << 36 | part, count));
         self.asked(rest.is_empty(), Fault::BehindCell)
+    }
+
+    /// The count, where the items have one, with the extensions before and behind it.
+    fn behind_identity(&mut self, head: u8, rest: &mut &[u8]) -> Option<u16> {
+        let is_counted = self.form.is_counted;
+        let mut count = 0;
+        if is_counted && self.has(Fault::CountFirst) {
+            count = pair(rest)?;
+        }
+        self.extensions(head & 0x10 != 0, rest, Place::IdentityExtension)?;
+        if is_counted && !self.has(Fault::CountFirst) && !self.has(Fault::CountLast) {
+            count = pair(rest)?;
+        }
+        self.extensions(head & 0x40 != 0, rest, Place::CellExtension)?;
+        if is_counted && self.has(Fault::CountLast) {
+            count = pair(rest)?;
+        }
+        Some(count)
     }
 
     fn extensions(&mut self, present: bool, rest: &mut &[u8], place: Place) -> Option<()> {
@@ -148,7 +166,9 @@ impl Reader {
             Fault::NoCellDepth => place == Place::CellExtension,
             Fault::NoIdentityDepth => place == Place::IdentityExtension,
             Fault::NidIsKnown => place == Place::CellExtension && field.id == NID,
-            Fault::ElementIsAnExtension => is_extension && IN_ORDER.contains(&field.id),
+            Fault::ElementIsAnExtension => is_extension && self.form.elements.contains(&field.id),
+            Fault::DiagnosticsAreKnown => !is_extension && field.id == DIAGNOSTICS,
+            Fault::DedicatedIsKnown => !is_extension && field.id == DEDICATED_LIST,
             _ => false,
         };
         let is_notify = field.criticality == 2 && self.has(Fault::NotifyIsReject);
@@ -156,7 +176,15 @@ impl Reader {
             self.found.problems.push(15);
         }
         if !is_extension {
-            if self.has(Fault::UnknownTwice) && self.found.unknown.contains(&field.id) {
+            let is_repeat = self.found.unknown.contains(&field.id);
+            let is_early = self.found.known.len() < self.form.elements.len();
+            let is_wrong = match self.fault {
+                Fault::UnknownTwice => is_repeat,
+                Fault::DiagnosticsTwice => is_repeat && field.id == DIAGNOSTICS,
+                Fault::DiagnosticsLast => is_early && field.id == DIAGNOSTICS,
+                _ => false,
+            };
+            if is_wrong {
                 self.found.problems.push(16);
             }
             self.found.unknown.push(field.id);

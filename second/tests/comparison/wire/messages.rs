@@ -3,12 +3,19 @@
 use second::CellIdentity;
 
 use super::encoder::{Encoder, Spots, Twist};
+use super::forms::Form;
 
+pub const DIAGNOSTICS: u16 = 7;
 pub const TRANSACTION: u16 = 78;
 pub const REQUESTED: u16 = 142;
+pub const COMPLETED_LIST: u16 = 146;
+pub const COMPLETED_ITEM: u16 = 147;
 pub const LIST: u16 = 148;
 pub const ITEM: u16 = 149;
+pub const CANCELLED_LIST: u16 = 150;
+pub const CANCELLED_ITEM: u16 = 151;
 pub const CANCEL_ALL: u16 = 157;
+pub const DEDICATED_LIST: u16 = 189;
 pub const NOTIFICATION: u16 = 220;
 pub const NID: u16 = 385;
 
@@ -41,14 +48,22 @@ pub enum Value {
     Cells(Vec<Field>),
     CancelAll,
     Notification { identifier: u16, serial: u16, extensions: Vec<Field> },
-    Cell { identity: u64, identity_extensions: Vec<Field>, extensions: Vec<Field> },
+    Cell(Cell),
     Octets(Vec<u8>),
 }
 
+#[derive(Clone, Debug, PartialEq, Eq)]
+pub struct Cell {
+    pub identity: u64,
+    pub identity_extensions: Vec<Field>,
+    /// Of broadcasts, where it has one.
+    pub count: Option<u16>,
+    pub extensions: Vec<Field>,
+}
+
 impl Frame {
-    /// A PWS CANCEL REQUEST.
-    pub fn of(elements: Vec<Field>) -> Frame {
-        Frame { choice: 0, code: 21, criticality: REJECT, elements }
+    pub fn of(form: &Form, elements: Vec<Field>) -> Frame {
+        Frame { choice: form.choice, code: form.code, criticality: REJECT, elements }
     }
 
     pub fn encode(&self) -> Vec<u8> {
@@ -92,6 +107,16 @@ impl Frame {
         encoder.open_type(contents);
     }
 
+    /// The items of its list of cells.
+    pub fn cells(&mut self) -> &mut Vec<Field> {
+        let mut elements = self.elements.iter_mut();
+        let items = elements.find_map(|element| match &mut element.value {
+            Value::Cells(items) => Some(items),
+            _ => None,
+        });
+        items.expect("it has a list")
+    }
+
     /// The k-th list of fields: the elements, then those within each, in their order.
     pub fn list(&mut self, k: usize) -> Option<&mut Vec<Field>> {
         list(&mut self.elements, &mut { k })
@@ -121,14 +146,26 @@ impl Field {
         Field::known(REQUESTED, Value::Requested(count))
     }
 
-    /// A list of bare cells.
+    /// What a cancel is for.
     pub fn cells(identities: &[u64]) -> Field {
-        Field::known(LIST, Value::Cells(identities.iter().map(|it| Field::cell(*it)).collect()))
+        Field::list(LIST, ITEM, identities.iter().map(|identity| (*identity, None)))
     }
 
-    pub fn cell(identity: u64) -> Field {
-        let (identity_extensions, extensions) = (Vec::new(), Vec::new());
-        Field::known(ITEM, Value::Cell { identity, identity_extensions, extensions })
+    /// Where a start went.
+    pub fn completed(identities: &[u64]) -> Field {
+        Field::list(COMPLETED_LIST, COMPLETED_ITEM, identities.iter().map(|it| (*it, None)))
+    }
+
+    /// What was cancelled, with how often it had been broadcast.
+    pub fn cancelled(counted: &[(u64, u16)]) -> Field {
+        let cells = counted.iter().map(|(identity, count)| (*identity, Some(*count)));
+        Field::list(CANCELLED_LIST, CANCELLED_ITEM, cells)
+    }
+
+    /// A list of bare cells.
+    fn list(id: u16, item: u16, cells: impl Iterator<Item = (u64, Option<u16>)>) -> Field {
+        let cell = |(identity, count)| Field::known(item, Value::Cell(Cell::bare(identity, count)));
+        Field::known(id, Value::Cells(cells.map(cell).collect()))
     }
 
     pub fn cancel_all() -> Field {
@@ -157,9 +194,7 @@ impl Value {
         match self {
             Value::Cells(items) => vec![items],
             Value::Notification { extensions, .. } => vec![extensions],
-            Value::Cell { identity_extensions, extensions, .. } => {
-                vec![identity_extensions, extensions]
-            }
+            Value::Cell(cell) => vec![&mut cell.identity_extensions, &mut cell.extensions],
             _ => Vec::new(),
         }
     }
@@ -180,18 +215,30 @@ impl Value {
                 encoder.bits(16, (*serial).into());
                 write_extensions(encoder, extensions);
             }
-            Value::Cell { identity, identity_extensions, extensions } => {
-                encoder.zero();
-                encoder.bits(1, (!extensions.is_empty()).into());
-                encoder.zero();
-                encoder.bits(1, (!identity_extensions.is_empty()).into());
-                encoder.aligned(CellIdentity::PLMN_WIDTH, identity >> CellIdentity::PART_WIDTH);
-                encoder.aligned(CellIdentity::PART_WIDTH, *identity);
-                write_extensions(encoder, identity_extensions);
-                write_extensions(encoder, extensions);
-            }
+            Value::Cell(cell) => cell.write(encoder),
             Value::Octets(octets) => encoder.octets(octets),
         }
+    }
+}
+
+impl Cell {
+    /// Without extensions.
+    pub fn bare(identity: u64, count: Option<u16>) -> Cell {
+        Cell { identity, identity_extensions: Vec::new(), count, extensions: Vec::new() }
+    }
+
+    fn write(&self, encoder: &mut Encoder) {
+        for extensions in [&self.extensions, &self.identity_extensions] {
+            encoder.zero();
+            encoder.bits(1, (!extensions.is_empty()).into());
+        }
+        encoder.aligned(CellIdentity::PLMN_WIDTH, self.identity >> CellIdentity::PART_WIDTH);
+        encoder.aligned(CellIdentity::PART_WIDTH, self.identity);
+        write_extensions(encoder, &self.identity_extensions);
+        if let Some(count) = self.count {
+            encoder.aligned(16, count.into());
+        }
+        write_extensions(encoder, &self.extensions);
     }
 }
 

@@ -1,8 +1,9 @@
 //! The comparison's own messages: bytes that are known, and what they mean.
 
-use second::{read_cancel, Message, Record};
+use second::{read_cancel, read_response, Message};
 
-use super::examples::{examples, Example};
+use super::examples::Example;
+use super::families::{Family, CANCELS, RESPONSES};
 use super::meaning::meaning;
 
 fn bytes(digits: &str) -> Vec<u8> {
@@ -11,10 +12,16 @@ fn bytes(digits: &str) -> Vec<u8> {
     (0..digits.len()).step_by(2).map(octet).collect()
 }
 
+fn examples() -> Vec<(&'static Family, Example)> {
+    let of = |family: &'static Family| (family.examples)().into_iter().map(move |it| (family, it));
+    of(&CANCELS).chain(of(&RESPONSES)).collect()
+}
+
 #[test]
 fn each_example_is_encoded_byte_for_byte() {
-    let lengths = [24, 28, 43, 65, 6688, 35, 55, 69];
-    for (example, length) in examples().into_iter().zip(lengths) {
+    let lengths = [24, 28, 43, 65, 6688, 35, 55, 69, 13, 49, 13, 32, 46, 44];
+    assert_eq!(examples().len(), lengths.len());
+    for ((_, example), length) in examples().into_iter().zip(lengths) {
         assert_eq!(example.frame.encode(), bytes(&example.digits), "{}", example.name);
         assert_eq!(example.frame.encode().len(), length, "{}", example.name);
     }
@@ -22,15 +29,17 @@ fn each_example_is_encoded_byte_for_byte() {
 
 #[test]
 fn each_example_is_read_as_meant() {
-    for Example { name, frame, .. } in examples() {
-        let mut record = vec![0; Record::HEADER + Record::ITEM * Record::MOST_ITEMS];
-        let Message { number, transaction, length } = read_cancel(&frame.encode(), &mut record);
-        let read = if number == 0 {
-            Ok((transaction, Record::parse(&record[..length]).expect("it is a record")))
-        } else {
-            Err(number)
+    for (family, Example { name, frame, .. }) in examples() {
+        let read = if name.starts_with('C') { read_cancel } else { read_response };
+        let mut buffer = vec![0; 8000];
+        let Message { number, transaction, length } = read(&frame.encode(), &mut buffer);
+        let read = match number {
+            0 => Ok((transaction, buffer[..length].to_vec())),
+            _ => Err(number),
         };
-        assert_eq!(read, meaning(&frame), "{name}");
-        assert_eq!(number, if name == "C7" { 15 } else { 0 }, "{name}");
+        assert_eq!(read, meaning(family, &frame), "{name}");
+        // With a NID.
+        let expected = if ["C7", "R5", "R6"].contains(&name) { 15 } else { 0 };
+        assert_eq!(number, expected, "{name}");
     }
 }

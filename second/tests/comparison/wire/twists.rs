@@ -2,10 +2,11 @@
 //! messages cut and longer, and bytes changed.
 
 use super::encoder::{Form, Twist};
-use super::examples::{cancel, named};
+use super::forms::Place;
 use super::meaning::LONGEST;
 use super::messages::*;
-use crate::comparison::cases::{Cases, Compared};
+use super::readings::Readings;
+use crate::comparison::cases::Compared;
 
 /// Forms of a length in which none is ever read.
 pub(super) const NEVER: [Form; 10] = [
@@ -41,7 +42,7 @@ pub(super) const OTHER_COUNTS: [fn(u16) -> u16; 9] = [
     |_| 65_535,
 ];
 
-impl Cases<'_> {
+impl Readings<'_, '_> {
     /// Each bit of padding and each extension bit.
     pub(super) fn set_bits(&mut self, frame: &Frame) -> Compared {
         let twists = (0..frame.spots().bits).map(Twist::Bit);
@@ -105,11 +106,12 @@ impl Cases<'_> {
 
     /// Every other value of every byte of a message that has extensions everywhere.
     pub(super) fn changed_bytes(&mut self) -> Compared {
-        let message = named("C8").encode();
-        for (at, change) in (0..message.len()).flat_map(|at| (1..=255).map(move |by| (at, by))) {
-            let mut changed = message.clone();
-            changed[at] ^= change;
-            self.read_message(&changed)?;
+        for message in self.family.rich_in_one_cell().iter().map(Frame::encode) {
+            for (at, by) in (0..message.len()).flat_map(|at| (1..=255).map(move |by| (at, by))) {
+                let mut changed = message.clone();
+                changed[at] ^= by;
+                self.read_message(&changed)?;
+            }
         }
         Ok(())
     }
@@ -117,23 +119,31 @@ impl Cases<'_> {
     /// Around the longest that is not in fragments and far beyond it; and with more elements, and
     /// more extensions, than a byte counts.
     pub(super) fn long_messages(&mut self) -> Compared {
-        let padded = |length: usize| {
-            let unknown = Field::unknown(999, IGNORE, &vec![7; length]);
-            cancel(vec![Field::cancel_all(), unknown])
-        };
-        let around = LONGEST - (padded(1000).encode().len() - 5 - 1000);
-        for length in (around - 2..around + 3).chain([16_383, 16_384, 16_389, 32_768, 65_536]) {
-            self.read_as_meant(&padded(length))?;
+        for whole in (self.family.whole)() {
+            let padded = |length: usize| {
+                let mut frame = whole.clone();
+                frame.elements.push(Field::unknown(999, IGNORE, &vec![7; length]));
+                frame
+            };
+            let around = LONGEST - (padded(1000).encode().len() - 5 - 1000);
+            for length in (around - 2..around + 3).chain([16_383, 16_384, 16_389, 32_768, 65_536]) {
+                self.read_as_meant(&padded(length))?;
+            }
+            self.read_as_meant(&padded(200_000))?;
+            for count in [254, 255, 256, 257, 258, 1000, 2000] {
+                self.with_many(&whole, &vec![Field::unknown(999, NOTIFY, &[7]); count])?;
+            }
         }
-        self.read_as_meant(&padded(200_000))?;
-        for count in [254, 255, 256, 257, 258, 1000, 2000] {
-            let unknown = vec![Field::unknown(999, NOTIFY, &[7]); count];
-            let mut frame = cancel(vec![Field::cancel_all()]);
-            frame.elements.splice(1..1, unknown.clone());
-            self.read_as_meant(&frame)?;
-            for k in [2, 3, 4] {
-                let mut frame = named("C4");
-                *frame.list(k).expect("it has a cell") = unknown.clone();
+        Ok(())
+    }
+
+    /// In each list but that of the items.
+    fn with_many(&mut self, frame: &Frame, many: &[Field]) -> Compared {
+        for (k, place) in Place::all(frame).into_iter().enumerate() {
+            if place != Place::Items {
+                let mut frame = frame.clone();
+                let list = frame.list(k).expect("it is numbered");
+                list.splice(list.len().min(1)..list.len().min(1), many.iter().cloned());
                 self.read_as_meant(&frame)?;
             }
         }
