@@ -1,6 +1,6 @@
-//! Document 02's messages of the wire, of F1AP in the aligned variant of X.691: cancels that are read,
-//! and responses that are written and read. What is read is decoded into a tree, and the tree is
-//! judged by the form that its message has.
+//! Document 02's messages of the wire, of F1AP in the aligned variant of X.691: cancels that are
+//! read, and responses that are written and read. What is read is decoded into a tree, and the tree
+//! is judged by the form that its message has.
 
 mod cancel;
 mod cursor;

@@ -1,5 +1,5 @@
-//! Document 02's cancels that come straight from the wire: what a PWS CANCEL REQUEST asks for becomes
-//! a record.
+//! Document 02's cancels that come straight from the wire: what a PWS CANCEL REQUEST asks for
+//! becomes a record.
 
 use super::forms::CANCEL_REQUEST;
 use super::tree::{Item, Tree, Value};

@@ -22,8 +22,8 @@ pub fn write_response(answer: &[u8], transaction: u8, message: &mut [u8]) -> Don
         .into()
 }
 
-/// The answer that a message gives is laid at the start of the buffer, and the bytes behind it stay.
-/// Tests 13, 14, 15, 16, 17, 8.
+/// The answer that a message gives is laid at the start of the buffer, and the bytes behind it
+/// stay. Tests 13, 14, 15, 16, 17, 8.
 pub fn read_response(message: &[u8], answer: &mut [u8]) -> Message {
     decoded(message, &RESPONSES)
         .and_then(|(form, tree)| {
@@ -34,8 +34,8 @@ pub fn read_response(message: &[u8], answer: &mut [u8]) -> Message {
         .into()
 }
 
-/// An answer, and the form of its response; `None` "for bytes that no accepted Write-Replace or Cancel
-/// could have as its answer under any table".
+/// An answer, and the form of its response; `None` "for bytes that no accepted Write-Replace or
+/// Cancel could have as its answer under any table".
 fn judged(answer: &[u8]) -> Option<(&'static Form, Answer)> {
     let answer = Answer::parse(answer)?;
     let form = RESPONSES.iter().find(|form| form.kind == answer.kind)?;

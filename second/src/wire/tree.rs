@@ -1,6 +1,6 @@
-//! The messages of F1AP as trees: the frame of any, and the elements of one whose form is known. What
-//! is made here is well encoded to its last bit; whether its elements are the right ones is not
-//! looked at.
+//! The messages of F1AP as trees: the frame of any, and the elements of one whose form is known.
+//! What is made here is well encoded to its last bit; whether its elements are the right ones is
+//! not looked at.
 
 use super::cursor::Cursor;
 use super::forms::*;

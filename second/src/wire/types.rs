@@ -1,5 +1,5 @@
-//! How X.691's aligned variant encodes the types that F1AP's warning messages are made of: read with
-//! a cursor, and written with a pen.
+//! How X.691's aligned variant encodes the types that F1AP's warning messages are made of: read
+//! with a cursor, and written with a pen.
 
 use std::ops::RangeInclusive;
 

@@ -24,9 +24,9 @@ pub struct Run {
     make: fn(&mut Cases, u64) -> Compared,
     /// Units with one fault each, by name.
     pub broken: fn() -> Vec<(&'static str, Functions)>,
-    /// Faults that it finds though both units have them: they break a promise of every call, what is
-    /// converted does not run as what it was, or what is read from the wire or written to it is not
-    /// what was meant.
+    /// Faults that it finds though both units have them: they break a promise of every call, what
+    /// is converted does not run as what it was, or what is read from the wire or written to it is
+    /// not what was meant.
     pub found_in_both: &'static [&'static str],
 }
 

@@ -8,7 +8,7 @@ use super::messages::{Field, Frame};
 use crate::given::random::Random;
 
 /// What an answer tells: cells with counts.
-#[derive(Clone, Debug)]
+#[derive(Clone, Debug, PartialEq, Eq)]
 pub struct Told {
     pub kind: u8,
     pub identifier: u16,

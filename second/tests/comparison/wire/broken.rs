@@ -32,7 +32,9 @@ macro_rules! faults {
         ];
         const RESPONSES: &[(&str, Read)] = &[
             $(($both_name, |message, answer| read_response(Fault::$both, message, answer)),)*
-            $(($response_name, |message, answer| read_response(Fault::$response, message, answer)),)*
+            $(($response_name, |message, answer| {
+                read_response(Fault::$response, message, answer)
+            }),)*
         ];
         const WRITTEN: &[(&str, Write)] = &[
             $(($written_name, |answer, transaction, message| {

@@ -1,4 +1,5 @@
-//! Messages that an entry point reads, each thing that can be wrong once: then rounds of seeded ones.
+//! Messages that an entry point reads, with each thing that can be wrong once: then rounds of
+//! seeded ones.
 
 use std::slice::from_ref;
 

@@ -170,10 +170,8 @@ impl Readings<'_, '_> {
             let (done, written) =
                 self.cases.compare.write_response(&answer, transaction, buffer)?;
             if done.number != 0 || self.given_by(&written[..done.length])? != (given, answer) {
-                return Err(format!(
-                    "what is read does not come back whole: {:02x?}",
-                    frame.encode()
-                ));
+                let call = (self.family.call)(frame.encode(), vec![0; given.length]);
+                return Err(format!("what this gives does not come back whole:\n{call}\n"));
             }
         }
         Ok(())

@@ -1,10 +1,12 @@
 //! The comparison's own messages: bytes that are known, and what they mean.
 
-use second::{read_cancel, read_response, Message};
+use second::{read_cancel, read_response, write_response, Done, Message};
 
+use super::answers::{bytes_of, told, told_by};
 use super::examples::Example;
 use super::families::{Family, CANCELS, RESPONSES};
 use super::meaning::meaning;
+use crate::given::random::{seed, Random};
 
 fn bytes(digits: &str) -> Vec<u8> {
     let digits: String = digits.split_whitespace().collect();
@@ -41,5 +43,28 @@ fn each_example_is_read_as_meant() {
         // With a NID.
         let expected = if ["C7", "R5", "R6"].contains(&name) { 15 } else { 0 };
         assert_eq!(number, expected, "{name}");
+    }
+}
+
+#[test]
+fn each_example_of_a_response_is_written() {
+    for Example { name, frame, digits } in (RESPONSES.examples)() {
+        // Nothing is written of one with a NID.
+        let Ok((transaction, answer)) = meaning(&RESPONSES, &frame) else { continue };
+        let mut message = [0; 49];
+        let done = write_response(&answer, transaction as u8, &mut message);
+        assert_eq!(done, Done { number: 0, length: bytes(&digits).len() }, "{name}");
+        assert_eq!(message[..done.length], bytes(&digits), "{name}");
+    }
+}
+
+#[test]
+fn the_bytes_of_an_answer_tell_it() {
+    let mut random = Random::new(seed("answers"));
+    for (kind, rows) in [(1, 0), (2, 0), (1, 3), (2, 3), (1, 512), (2, 512)] {
+        let answer = told(&mut random, kind, rows);
+        assert_eq!(told_by(&bytes_of(&answer)), Some(answer));
+        let more = told(&mut random, kind, 513);
+        assert_eq!(told_by(&bytes_of(&more)), None);
     }
 }

@@ -1,5 +1,5 @@
-//! Answers of which responses are written: each thing that can be wrong once, then seeded ones. What
-//! is written is read back.
+//! Answers of which responses are written, with each thing that can be wrong once: then rounds of
+//! seeded ones. What is written is read back.
 
 use second::Done;
 
@@ -7,6 +7,7 @@ use super::answers::*;
 use super::families::RESPONSES;
 use super::readings::Readings;
 use crate::comparison::broken::with_byte;
+use crate::comparison::call::Call;
 use crate::comparison::cases::{Cases, Compared};
 
 /// Cells at the bounds of a PLMN, of 36 bits and of what a cell is.
@@ -30,10 +31,9 @@ impl Cases<'_> {
         self.headers_of_answers()?;
         self.lengths_of_answers()?;
         self.orders_of_rows()?;
-        [1, 3].into_iter().try_for_each(|rows| self.changed_answers(rows))?;
+        self.changed_answers()?;
         self.rooms_of_messages()?;
         self.bounds_of_rows()?;
-        self.changed_answers(512)?;
         while self.compare.calls < calls {
             self.answer_round()?;
         }
@@ -54,7 +54,9 @@ impl Cases<'_> {
         if done == expected && message.starts_with(written) {
             return Ok(());
         }
-        Err(format!("what was meant is {expected:?} of the answer {answer:02x?}\n"))
+        let (answer, message) = (answer.to_vec(), vec![0; room]);
+        let call = Call::WriteResponse { answer, transaction, message };
+        Err(format!("what was meant is {expected:?}:\n{call}\n"))
     }
 
     /// Mostly with room for what there may be.
@@ -170,15 +172,15 @@ impl Cases<'_> {
         Ok(())
     }
 
-    /// Each byte of an answer once, to several values where it has few rows.
-    fn changed_answers(&mut self, rows: usize) -> Compared {
-        for kind in [1, 2] {
+    /// Each byte of the header and of each row once, to several values; of many rows in some.
+    fn changed_answers(&mut self) -> Compared {
+        for (kind, rows) in [(1, 1), (2, 1), (1, 3), (2, 3), (1, 40), (2, 40), (1, 512), (2, 512)] {
             let answer = bytes_of(&told(&mut self.random, kind, rows));
-            for (at, byte) in answer.iter().copied().enumerate() {
-                let any = self.random.other(byte);
-                let several = [any, byte.wrapping_add(1), byte.wrapping_sub(1), byte ^ 0x80, 0, 1];
-                for other in &several[..if rows < 512 { several.len() } else { 1 }] {
-                    self.write_answer(&with_byte(&answer, at, *other))?;
+            let in_row = |row: usize| (0..ROW).map(move |at| HEADER + ROW * row + at);
+            for at in (0..HEADER).chain(some_of(rows).into_iter().flat_map(in_row)) {
+                let (byte, any) = (answer[at], self.random.other(answer[at]));
+                for other in [any, byte.wrapping_add(1), byte.wrapping_sub(1), byte ^ 0x80, 0, 1] {
+                    self.write_answer(&with_byte(&answer, at, other))?;
                 }
             }
         }
