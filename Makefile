@@ -54,7 +54,7 @@ host-test: host-programs
 # The same tests of the engine by hand, on any processor, with every line of it instrumented: so the wrapper and the tests meet
 # AddressSanitizer where libpws.a is emulated, and the peer meets the guard pages.
 PEER_FLAGS = -g -fsanitize=address,undefined -fno-sanitize-recover=all -DPWS_OTHER_LIBRARY
-PEER_NAMES = $(foreach name,build convert apply read write item segment pack read_cancel,-Dpws_$(name)=peer_$(name))
+PEER_NAMES = $(foreach name,build convert apply read write item segment pack read_cancel write_response read_response,-Dpws_$(name)=peer_$(name))
 PEER_SOURCES = $(wildcard bench/*.cpp bench/peer/*.hpp) host/include/pws.h
 
 target/host/peer/peer.o: $(PEER_SOURCES)

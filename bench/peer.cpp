@@ -4,6 +4,7 @@
 #include "peer/convert.hpp"
 #include "peer/reach.hpp"
 #include "peer/record.hpp"
+#include "peer/response.hpp"
 #include "peer/segments.hpp"
 #include "peer/steps.hpp"
 #include "peer/table.hpp"
@@ -61,10 +62,7 @@ extern "C" pws_done peer_apply(uint8_t *table, size_t table_length, const uint8_
     }
     Rows rows = {answer + ANSWER_HEADER};
     happen(table, record, record_length, rows);
-    put_mark(answer, 'A', ANSWER_VERSION);
-    answer[5] = record[5];
-    put_raw(answer + 6, raw<uint32_t>(record + 8));
-    put16(answer + 10, rows.count);
+    put_answer_header(answer, record[5], raw<uint32_t>(record + 8), rows.count);
     return {0, static_cast<size_t>(rows.next - answer)};
 }
 
@@ -176,11 +174,38 @@ extern "C" pws_message peer_read_cancel(const uint8_t *message, size_t message_l
     if (const uint32_t number = cancel.refusal()) {
         return {number, 0, 0};
     }
-    const size_t length = RECORD_HEADER + ITEM * cancel.cells;
+    const size_t length = RECORD_HEADER + ITEM * cancel.cells.count;
     if (record_length < length) {
         return {8, 0, 0};
     }
-    put_fields(record, cancel.request(), cancel.cells);
-    put_cells(record + RECORD_HEADER, cancel.items, cancel.cells);
+    put_fields(record, cancel.request(), cancel.cells.count);
+    put_cells(record + RECORD_HEADER, cancel.cells);
     return {0, cancel.transaction, length};
+}
+
+extern "C" pws_done peer_write_response(const uint8_t *answer, size_t answer_length, uint8_t transaction, uint8_t *message,
+                                        size_t message_length) {
+    if (const uint32_t number = answer_refusal(answer, answer_length)) {
+        return {number, 0};
+    }
+    return answer[5] == CANCEL ? put_response<CancelResponse>(answer, transaction, message, message_length)
+                               : put_response<WarningResponse>(answer, transaction, message, message_length);
+}
+
+extern "C" pws_message peer_read_response(const uint8_t *message, size_t message_length, uint8_t *answer, size_t answer_length) {
+    Frame frame;
+    if (!take_frame({message, message + message_length}, frame)) {
+        return {13, 0, 0};
+    }
+    if (frame.choice != SUCCESSFUL_OUTCOME) {
+        return {14, 0, 0};
+    }
+    switch (frame.code) {
+    case WarningResponse::CODE:
+        return read_response<WarningResponse>(frame.value, answer, answer_length);
+    case CancelResponse::CODE:
+        return read_response<CancelResponse>(frame.value, answer, answer_length);
+    default:
+        return {14, 0, 0};
+    }
 }

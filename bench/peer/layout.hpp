@@ -52,4 +52,12 @@ void put_mark(uint8_t *bytes, char last, uint8_t version) {
     bytes[4] = version;
 }
 
+// Identifier and serial number as they lie in the record.
+void put_answer_header(uint8_t *answer, uint8_t kind, uint32_t text, uint16_t rows) {
+    put_mark(answer, 'A', ANSWER_VERSION);
+    answer[5] = kind;
+    put_raw(answer + 6, text);
+    put16(answer + 10, rows);
+}
+
 }

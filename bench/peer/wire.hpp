@@ -7,7 +7,11 @@
 namespace {
 
 enum Criticality : uint8_t { REJECT, IGNORE, NOTIFY, NO_CRITICALITY };
-enum Choice : uint8_t { INITIATING_MESSAGE = 0x00, CHOICE_EXTENSION = 0xc0 };
+enum Choice : uint8_t { INITIATING_MESSAGE = 0x00, SUCCESSFUL_OUTCOME = 0x40, CHOICE_EXTENSION = 0xc0 };
+enum ProcedureCode : uint8_t { WRITE_REPLACE_WARNING = 20, PWS_CANCEL = 21 };
+
+// Every message begins with it.
+constexpr uint16_t TRANSACTION_ID = 78;
 
 // The bits of padding behind a choice or a criticality.
 constexpr uint8_t SIX_BITS = 0x3f;
@@ -21,9 +25,24 @@ struct View {
     size_t left() const { return end - at; }
 };
 
-// What is refused only if nothing in the whole message is badly encoded: 15 and 16.
+// What is refused only if nothing in the whole message is badly encoded: 15 and 16. "seen" has a bit for each known element that there
+// was, in the order that they must have.
 struct Findings {
     bool rejected = false, misplaced = false;
+    uint8_t seen = 0;
+
+    void see(uint8_t element) {
+        misplaced |= seen >= element;
+        seen |= element;
+    }
+
+    // 0, 15 or 16.
+    uint32_t refusal(uint8_t mandatory) const {
+        if (rejected) {
+            return 15;
+        }
+        return misplaced || (seen & mandatory) != mandatory ? 16 : 0;
+    }
 };
 
 struct Element {
@@ -32,8 +51,8 @@ struct Element {
     View contents;
 };
 
-// Behind a length in its shortest form, not fragmented and not 0. Two bytes at least are left.
-bool take_open_type(View &from, View &contents) {
+// Behind a length in its shortest form, not fragmented and not 0. Two bytes at least are left. Inlined, so that views stay in registers.
+[[gnu::always_inline]] inline bool take_open_type(View &from, View &contents) {
     size_t length = from.at[0];
     if (length < 0x80) {
         from.at += 1;
@@ -52,7 +71,7 @@ bool take_open_type(View &from, View &contents) {
     return true;
 }
 
-// An element, a list's item or an extension. Inlined in every loop over them, so that the view stays in registers.
+// An element, a list's item or an extension. Inlined for the same reason.
 [[gnu::always_inline]] inline bool take_element(View &from, Element &element) {
     if (from.left() < SHORTEST_ELEMENT) {
         return false;
@@ -107,6 +126,28 @@ bool take_frame(View message, Frame &frame) {
     message.at += header;
     const bool marked = (frame.choice & SIX_BITS) == 0 && (marks & SIX_BITS) == 0 && marks >> 6 != NO_CRITICALITY;
     return marked && take_open_type(message, frame.value) && message.left() == 0;
+}
+
+// An extension bit and seven of padding, the count of elements, the elements.
+template <class Judge> bool judge_elements(View value, Judge judge) {
+    if (value.left() < 3 || value.at[0] != 0) {
+        return false;
+    }
+    size_t left = be16(value.at + 1);
+    value.at += 3;
+    for (; left != 0; --left) {
+        Element element;
+        if (!take_element(value, element) || !judge(element)) {
+            return false;
+        }
+    }
+    return value.left() == 0;
+}
+
+// An extension bit and seven of padding, the number.
+bool judge_transaction(View contents, uint8_t &transaction) {
+    transaction = contents.end[-1];
+    return contents.left() == 2 && contents.at[0] == 0;
 }
 
 }
