@@ -34,6 +34,8 @@
  *  14  another message
  *  15  an unknown element marked reject, at whatever depth
  *  16  a mandatory element is missing, a list item's own among them; or a known element is repeated or out of order
+ *  17  for the writer of responses, bytes that no accepted Write-Replace or Cancel could have as its answer under any table; for
+ *      their reader, cells that don't ascend strictly
  */
 #ifndef PWS_H
 #define PWS_H
@@ -84,7 +86,8 @@ typedef struct {
     size_t length;
 } pws_part;
 
-/* 0, the message's transaction identifier (0 to 255) and the length of the record written. Or a refusal, and everything else 0. */
+/* 0, the message's transaction identifier (0 to 255) and the length of what it was written as: the record of a cancel, the answer
+ * of a response. Or a refusal, and everything else 0. */
 typedef struct {
     uint32_t number;
     uint32_t transaction;
@@ -143,7 +146,7 @@ pws_done pws_pack(const uint8_t *bytes, size_t bytes_length, const uint64_t *len
 
 /* Reads an F1AP PWS CANCEL REQUEST, lent as it came, with its exact length, and writes it as a Cancel record of version 2 at the
  * start of record: 26 + 8 n bytes for n listed cells, which is the length returned. The bytes behind them stay; 4122 bytes hold
- * every record that there is. pws_apply takes the record, and the answer to the message needs the transaction identifier.
+ * every record that there is. pws_apply takes the record, and pws_write_response the transaction identifier.
  *
  * The record has flag 2 for the message's cancel-all indicator, flag 4 with identifier and serial number for its notification
  * information, both for both; NumberofBroadcastRequest as requested; and the listed cells in their order, repeats among them.
@@ -152,6 +155,28 @@ pws_done pws_pack(const uint8_t *bytes, size_t bytes_length, const uint64_t *len
  *
  * Refusals in this order, each over the whole message: 13, 14, 15, 16, 7 (neither indicator), 8 (record shorter than this one). */
 pws_message pws_read_cancel(const uint8_t *message, size_t message_length, uint8_t *record, size_t record_length);
+
+/* Writes an answer, lent with its exact length as pws_apply gave it, as the F1AP message that tells of it, at the start of message:
+ * WRITE-REPLACE WARNING RESPONSE for an answer of kind 1, PWS CANCEL RESPONSE for one of kind 2. The length returned is the
+ * message's; the bytes behind it stay. transaction is that of the message that is answered.
+ *
+ * The message lists the cells of the rows, after a cancel each with its count; without rows it has no list, and 13 bytes. The
+ * answer's identifier and serial number are not in it. 21 + 15 n bytes hold a response of n rows, 7701 bytes every one that there
+ * is: lend so many, and an answer of pws_apply to kind 1 or 2 is never refused, so that no change stays unanswered.
+ *
+ * Refusals in this order: 17, 8 (message shorter than this one). */
+pws_done pws_write_response(const uint8_t *answer, size_t answer_length, uint8_t transaction, uint8_t *message, size_t message_length);
+
+/* Reads either response, lent as it came, with its exact length, and writes it as an answer of version 1 at the start of answer:
+ * 12 + 14 n bytes for n listed cells, which is the length returned. The bytes behind them stay; 7180 bytes hold every answer that
+ * there is. Its kind is 1 for a WRITE-REPLACE WARNING RESPONSE and 2 for a PWS CANCEL RESPONSE. Identifier and serial number are 0,
+ * for no response has them, and so are the counts of kind 1. Without a list it has no rows.
+ *
+ * Unknown elements are skipped or refused as in a cancel; diagnostics and the dedicated delivery list are unknown here. What
+ * pws_write_response writes reads back as the same kind, cells, counts and transaction identifier.
+ *
+ * Refusals in this order, each over the whole message: 13, 14 (neither response), 15, 16, 17, 8 (answer shorter than this one). */
+pws_message pws_read_response(const uint8_t *message, size_t message_length, uint8_t *answer, size_t answer_length);
 
 #ifdef __cplusplus
 }

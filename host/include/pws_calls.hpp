@@ -33,6 +33,7 @@ enum class Refusal : std::uint32_t {
     other_message = 14,
     unknown_element = 15,
     wrong_elements = 16,
+    wrong_answer = 17,
 };
 
 constexpr std::string_view text(Refusal refusal) noexcept {
@@ -60,6 +61,7 @@ constexpr std::string_view text(Refusal refusal) noexcept {
     case Refusal::other_message: return "the message is another one than the reader takes";
     case Refusal::unknown_element: return "the message has an unknown element that is marked reject";
     case Refusal::wrong_elements: return "the message lacks a mandatory element, or a known one is repeated or out of order";
+    case Refusal::wrong_answer: return "no accepted Write-Replace or Cancel has such an answer, or the response's cells don't ascend";
     }
     return "a number that is no refusal";
 }

@@ -53,10 +53,19 @@ inline Left pack_at(Flush flush, const Bytes &bytes, const std::vector<uint64_t>
     return {done.number, done.length, {to.bytes()}, from.alone() && by.alone() && to.alone()};
 }
 
-inline Left read_cancel_at(Flush flush, const Bytes &message, const Bytes &record) {
-    const Guarded from(message, flush, Lent::for_reading), to(record, flush, Lent::for_writing);
-    const pws_message read = pws_read_cancel(from.data(), from.size(), to.data(), to.size());
+// Messages have two readers.
+using Reader = decltype(&pws_read_cancel);
+
+inline Left read_message_at(Reader read_message, Flush flush, const Bytes &message, const Bytes &written) {
+    const Guarded from(message, flush, Lent::for_reading), to(written, flush, Lent::for_writing);
+    const pws_message read = read_message(from.data(), from.size(), to.data(), to.size());
     return {read.number, read.length, {to.bytes()}, from.alone() && to.alone(), read.transaction};
+}
+
+inline Left write_response_at(Flush flush, const Bytes &answer, uint8_t transaction, const Bytes &message) {
+    const Guarded from(answer, flush, Lent::for_reading), to(message, flush, Lent::for_writing);
+    const pws_done done = pws_write_response(from.data(), from.size(), transaction, to.data(), to.size());
+    return {done.number, done.length, {to.bytes()}, from.alone() && to.alone()};
 }
 
 // Whether a call gave this number and length, the same at both guards, and left what it must: every byte if refused, those
@@ -97,9 +106,16 @@ inline bool pack_gives(uint32_t number, size_t length, const Bytes &bytes, const
 }
 
 // A refusal gives no transaction identifier either.
-inline bool read_cancel_gives(uint32_t number, uint32_t transaction, size_t length, const Bytes &message, const Bytes &record) {
-    const Left at_end = read_cancel_at(Flush::end, message, record), at_front = read_cancel_at(Flush::front, message, record);
-    return gave(number, length, at_end, at_front, {record}) && at_end.transaction == transaction && (number == 0 || transaction == 0);
+inline bool read_message_gives(Reader read, uint32_t number, uint32_t transaction, size_t length, const Bytes &message,
+                               const Bytes &written) {
+    const Left at_end = read_message_at(read, Flush::end, message, written),
+               at_front = read_message_at(read, Flush::front, message, written);
+    return gave(number, length, at_end, at_front, {written}) && at_end.transaction == transaction && (number == 0 || transaction == 0);
+}
+
+inline bool write_response_gives(uint32_t number, size_t length, const Bytes &answer, uint8_t transaction, const Bytes &message) {
+    return gave(number, length, write_response_at(Flush::end, answer, transaction, message),
+                write_response_at(Flush::front, answer, transaction, message), {message});
 }
 
 // The fields are compared with the record's own bytes, at the places that document 01 gives them.

@@ -22,8 +22,9 @@ namespace wire {
 // Criticality, as it stands in the first two bits of its byte.
 inline constexpr uint8_t REJECT = 0x00, IGNORE = 0x40, NOTIFY = 0x80, NO_CRITICALITY = 0xc0;
 
-inline constexpr uint16_t ID_TRANSACTION = 78, ID_REQUESTED = 142, ID_LIST = 148, ID_ITEM = 149, ID_ALL = 157, ID_NOTIFICATION = 220,
-                          ID_NID = 385;
+inline constexpr uint16_t ID_DIAGNOSTICS = 7, ID_TRANSACTION = 78, ID_REQUESTED = 142, ID_COMPLETED = 146, ID_COMPLETED_ITEM = 147,
+                          ID_LIST = 148, ID_ITEM = 149, ID_CANCELLED = 150, ID_CANCELLED_ITEM = 151, ID_ALL = 157, ID_DEDICATED = 189,
+                          ID_DEDICATED_ITEM = 190, ID_NOTIFICATION = 220, ID_NID = 385;
 
 inline Bytes number(uint64_t value, int width) {
     Bytes b;
@@ -65,10 +66,10 @@ inline Bytes notification(uint16_t identifier, uint16_t serial, const Elements &
     return element(ID_NOTIFICATION, joined({number(bits, 5), container(extensions)}));
 }
 
-// What stands in an item's open type; NR CGI's extensions come before the item's own.
-inline Bytes cell_of(uint64_t nr_cgi, const Elements &own = {}, const Elements &of_nr_cgi = {}) {
+// What stands in an item's open type: NR CGI's extensions come before the item's own, and between them a count, if it has one.
+inline Bytes cell_of(uint64_t nr_cgi, const Elements &own = {}, const Elements &of_nr_cgi = {}, const Bytes &count = {}) {
     const auto marks = static_cast<uint8_t>((own.empty() ? 0 : 0x40) | (of_nr_cgi.empty() ? 0 : 0x10));
-    return joined({{marks}, number(nr_cgi << 4, 8), container(of_nr_cgi), container(own)});
+    return joined({{marks}, number(nr_cgi << 4, 8), container(of_nr_cgi), count, container(own)});
 }
 
 inline Bytes item(uint64_t nr_cgi, const Elements &own = {}, const Elements &of_nr_cgi = {}) {
@@ -77,7 +78,9 @@ inline Bytes item(uint64_t nr_cgi, const Elements &own = {}, const Elements &of_
 
 inline Bytes nid(uint64_t bits) { return element(ID_NID, number(bits << 4, 6)); }
 
-inline Bytes list(const Elements &items) { return element(ID_LIST, joined({number(items.size() - 1, 2), joined(items)})); }
+inline Bytes list(const Elements &items, uint16_t id = ID_LIST) {
+    return element(id, joined({number(items.size() - 1, 2), joined(items)}));
+}
 
 inline Bytes listed(const std::vector<uint64_t> &cells) {
     Elements items;

@@ -1,5 +1,6 @@
 // Cancels from the wire that are accepted, at the guards of edges.cpp: samples that another encoder wrote, every field at its ends,
-// lists up to the longest, rooms at, below and above, and what is skipped. wire_encoding.cpp and wire_elements.cpp have what is refused.
+// lists up to the longest, rooms at, below and above, and what is skipped. responses.cpp has the same of responses, wire_encoding.cpp and
+// wire_elements.cpp have what is refused.
 #include "read_cancels.hpp"
 
 using namespace wire;
@@ -93,7 +94,8 @@ static void rooms() {
     const auto into = [](size_t length, size_t cells) {
         const Bytes message = cells == 0 ? with({ALL}) : with({listed(std::vector<uint64_t>(cells, FIRST)), ALL});
         const size_t need = 26 + 8 * cells;
-        return length < need ? read_cancel_gives(8, 0, 0, message, room(length)) : read_cancel_gives(0, 7, need, message, room(length));
+        return length < need ? read_message_gives(pws_read_cancel, 8, 0, 0, message, room(length))
+                             : read_message_gives(pws_read_cancel, 0, 7, need, message, room(length));
     };
     each_length(
         30, [&](size_t length) { return into(length, 0); }, "a record without cells into every length");

@@ -16,6 +16,8 @@ static_assert(noexcept(pws::build({}, {})) &&noexcept(pws::convert({}, {})) &&no
 static_assert(noexcept(pws::read({})) &&noexcept(pws::write({}, {}, {})) &&noexcept(pws::item({}, 0)) &&noexcept(pws::text({})));
 static_assert(noexcept(pws::segment({}, {}, 0)) &&noexcept(pws::pack({}, {}, {})) && !std::is_convertible_v<pws::Part, bool>);
 static_assert(noexcept(pws::read_cancel({}, {})) && !std::is_convertible_v<pws::Message, bool>);
+static_assert(noexcept(pws::write_response({}, 0, {})) &&noexcept(pws::read_response({}, {})));
+static_assert(!std::is_convertible_v<pws::Response, bool>);
 
 static constexpr pws::Request FLOOD{.kind = pws::Kind::write_replace,
                                     .flags = pws::Flags::concurrent,
@@ -31,11 +33,11 @@ static constexpr pws::Request SECOND_PASSES{.kind = pws::Kind::second};
 
 static void texts() {
     std::set<std::string_view> distinct;
-    for (uint32_t number = 0; number <= 17; ++number) {
+    for (uint32_t number = 0; number <= 18; ++number) {
         distinct.insert(pws::text(static_cast<pws::Refusal>(number)));
     }
-    expect(distinct.size() == 18 && !distinct.contains(""), "0, each refusal and a number beyond them have texts of their own");
-    expect(pws::text(static_cast<pws::Refusal>(UINT32_MAX)) == pws::text(static_cast<pws::Refusal>(17)), "numbers beyond share one text");
+    expect(distinct.size() == 19 && !distinct.contains(""), "0, each refusal and a number beyond them have texts of their own");
+    expect(pws::text(static_cast<pws::Refusal>(UINT32_MAX)) == pws::text(static_cast<pws::Refusal>(18)), "numbers beyond share one text");
 }
 
 static void sizes() {
@@ -49,6 +51,8 @@ static void sizes() {
     using namespace pws::layout;
     expect(pws::list_size(0, 0) == 0 && pws::list_size(MOST_SEGMENTS, MOST_SEGMENTS * LONGEST_SEGMENT) == 63 * 65537,
            "lists take 2 bytes a segment, and its own");
+    expect(pws::response_size(0) >= 13 && pws::response_size(1) >= 34 && pws::response_size(MOST_CELLS) == 7701,
+           "no response has more than 21 + 15 n bytes, the longest has as many");
 }
 
 static void flags() {
@@ -211,6 +215,32 @@ static void read_then_apply() {
     expect(pws::read_cancel(message, {}).refusal == pws::Refusal::short_buffer, "no room for a record of a message");
 }
 
+// An answer becomes a message and comes back, without the identifier and the serial number that no response has.
+static void write_then_read_response() {
+    Bytes answer = {'P', 'W', 'A', 0, 1, 2, 0x11, 0x12, 0, 16, 0, 1}, message(pws::response_size(1), 0xee), again(26 + 1, 0xee);
+    put(answer, FIRST, 8);
+    put(answer, 2, 2);
+    put(answer, 0, 4);
+    const pws::Done response = pws::write_response(answer, 254, message);
+    const Bytes wanted = hex("4015001e 000002 004e000200fe 009600110000 0097000b0000f11000000001000002");
+    expect(bool(response) && response.written.data() == message.data() && std::ranges::equal(response.written, wanted) &&
+               message[wanted.size()] == 0xee,
+           "a response is written");
+    const pws::Response read = pws::read_response(response.written, again);
+    expect(bool(read) && read.transaction == 254 && read.answer.data() == again.data() && read.answer.size() == 26 && again[26] == 0xee,
+           "a response is read");
+    const pws::Answer told{read.answer};
+    const std::array<pws::Row, 1> stopped{{{FIRST, pws::Broadcasts{2}, 0}}};
+    expect(told.kind() == pws::Kind::cancel && told.identifier() == 0 && told.serial() == 0 && std::ranges::equal(told, stopped),
+           "as an answer that names no text");
+    expect(pws::write_response({}, 0, message).refusal == pws::Refusal::wrong_answer, "no answer");
+    expect(pws::write_response({}, 0, {}).refusal == pws::Refusal::wrong_answer, "no answer, and no room");
+    expect(pws::write_response(answer, 0, {}).refusal == pws::Refusal::short_buffer, "no room for a response");
+    expect(pws::read_response({}, again).refusal == pws::Refusal::badly_encoded, "no response");
+    expect(pws::read_response({}, {}).refusal == pws::Refusal::badly_encoded, "no response, and no room");
+    expect(pws::read_response(wanted, {}).refusal == pws::Refusal::short_buffer, "no room for the answer of a response");
+}
+
 static void refusals_leave_buffers() {
     Bytes table(pws::table_size(1)), record(pws::record_size(1), 0xee), answer(pws::answer_size(1, pws::Kind::second) - 1, 0xee);
     expect(bool(pws::build(head(FIRST, 1), table)), "a table of one cell");
@@ -234,6 +264,12 @@ static void refusals_leave_buffers() {
     expect(!unread && unread.refusal == pws::Refusal::badly_encoded && unread.transaction == 0 && unread.record.empty() &&
                table == table_before,
            "a refused message");
+    const pws::Done unanswered = pws::write_response(hex("505741000103000000000000"), 7, table);
+    expect(unanswered.refusal == pws::Refusal::wrong_answer && unanswered.written.empty() && table == table_before, "a refused answer");
+    const pws::Response untold = pws::read_response(hex("00150009 000001 004e00020007"), table);
+    expect(!untold && untold.refusal == pws::Refusal::other_message && untold.transaction == 0 && untold.answer.empty() &&
+               table == table_before,
+           "a refused response");
 }
 
 int main() {
@@ -248,6 +284,7 @@ int main() {
     empty_texts();
     pack_then_ask();
     read_then_apply();
+    write_then_read_response();
     refusals_leave_buffers();
     return report();
 }
