@@ -28,10 +28,11 @@ target/emulated/report: target/bin/report
 
 # The host's programs. The tests are built with sanitizers; libpws.a itself is not instrumented.
 HOST_TESTS = samples wrapper rules edges segments periods conversion wire wire_encoding wire_elements responses wrong_answers
-HOST_EXAMPLES = two_yards cancel_from_wire
+HOST_EXAMPLES = two_yards answer_on_wire cancel_from_wire response_from_wire
 HOST_SCRIPTS = example kept_messages compilers readme install ctest
 HOST_FLAGS = -std=c++20 -Wall -Wextra -Wpedantic -Wconversion -Werror -Ihost/include
-HOST_NEEDS = $(wildcard host/include/* host/tests/*.hpp) target/staticlib/libpws.a
+HOST_HEADERS = $(wildcard host/include/* host/tests/*.hpp host/example/*.hpp host/wire/*.hpp)
+HOST_NEEDS = $(HOST_HEADERS) target/staticlib/libpws.a
 
 host-programs: $(HOST_TESTS:%=target/host/%) $(HOST_EXAMPLES:%=target/host/%) target/host/wire_messages
 
@@ -44,7 +45,7 @@ $(HOST_EXAMPLES:%=target/host/%): target/host/%: host/example/%.cpp $(HOST_NEEDS
 	$(CXX) $(HOST_FLAGS) -O2 $< target/staticlib/libpws.a -o $@
 
 # What writes the kept messages needs no library.
-target/host/wire_messages: host/wire/wire_messages.cpp $(wildcard host/include/* host/tests/*.hpp)
+target/host/wire_messages: host/wire/wire_messages.cpp $(HOST_HEADERS)
 	@mkdir -p $(@D)
 	$(CXX) $(HOST_FLAGS) -Ihost/tests -g -fsanitize=$(SANITIZE) $< -o $@
 
@@ -61,13 +62,13 @@ target/host/peer/peer.o: $(PEER_SOURCES)
 	@mkdir -p $(@D)
 	$(NATIVE_CXX) -std=c++20 -O1 -Wall -Wextra -Werror -Ihost/include $(PEER_FLAGS) -c bench/peer.cpp -o $@
 
-$(HOST_TESTS:%=target/host/peer/%): target/host/peer/%: host/tests/%.cpp target/host/peer/peer.o $(wildcard host/include/* host/tests/*.hpp)
+$(HOST_TESTS:%=target/host/peer/%): target/host/peer/%: host/tests/%.cpp target/host/peer/peer.o $(HOST_HEADERS)
 	$(NATIVE_CXX) $(HOST_FLAGS) $(PEER_FLAGS) $(PEER_NAMES) $< target/host/peer/peer.o -o $@
 
-$(HOST_EXAMPLES:%=target/host/peer/%): target/host/peer/%: host/example/%.cpp target/host/peer/peer.o $(wildcard host/include/*)
+$(HOST_EXAMPLES:%=target/host/peer/%): target/host/peer/%: host/example/%.cpp target/host/peer/peer.o $(HOST_HEADERS)
 	$(NATIVE_CXX) $(HOST_FLAGS) $(PEER_FLAGS) $(PEER_NAMES) $< target/host/peer/peer.o -o $@
 
-target/host/peer/wire_messages: host/wire/wire_messages.cpp $(wildcard host/include/* host/tests/*.hpp)
+target/host/peer/wire_messages: host/wire/wire_messages.cpp $(HOST_HEADERS)
 	@mkdir -p $(@D)
 	$(NATIVE_CXX) $(HOST_FLAGS) $(PEER_FLAGS) -Ihost/tests $< -o $@
 
@@ -75,11 +76,11 @@ peer-test: $(HOST_TESTS:%=target/host/peer/%) $(HOST_EXAMPLES:%=target/host/peer
 	@RUN= PROGRAMS=target/host/peer host/tests/all.sh $(HOST_TESTS:%=target/host/peer/%) host/tests/example.sh host/tests/kept_messages.sh
 
 # The kept messages read by tshark, which nobody here wrote. Not part of the gate: it needs the package tshark.
-# make wire-peer WIRE_READER=target/host/peer/cancel_from_wire asks the engine by hand instead of the library.
-WIRE_READER ?= target/host/cancel_from_wire
+# make wire-peer WIRE_READERS=target/host/peer asks the engine by hand instead of the library.
+WIRE_READERS ?= target/host
 
-wire-peer: tshark-there $(WIRE_READER)
-	@host/wire/tshark.sh $(WIRE_READER)
+wire-peer: tshark-there $(WIRE_READERS)/cancel_from_wire $(WIRE_READERS)/response_from_wire
+	@host/wire/tshark.sh $(WIRE_READERS)
 
 # Before anything is built.
 tshark-there:

@@ -5,19 +5,22 @@ set -euo pipefail
 programs=$(realpath "${1:-${PROGRAMS:-target/host}}")
 cd "$(dirname "$0")/../.."
 . host/tests/check.sh
-kept=host/wire/messages
+kept=host/wire
 written=$(mktemp -d)
 trap 'rm -rf "$written"' EXIT
+mkdir "$written/cancel" "$written/response"
 
 writes() { ${RUN:-} "$programs/wire_messages" "$written"; }
 
-# A refusal is a reading too.
-reads() { diff "$kept/$1.reading" <(${RUN:-} "$programs/cancel_from_wire" <"$kept/$1.hex"); }
+# reads KIND NAME: a refusal is a reading too.
+reads() { diff "$kept/$1/$2.reading" <(${RUN:-} "$programs/$1_from_wire" <"$kept/$1/$2.hex"); }
 
 check "the messages are written" writes
-check "as they are kept" diff -r "$kept" "$written"
-for message in "$kept"/*.hex; do
-    name=$(basename "$message" .hex)
-    check "$name" reads "$name"
+for kind in cancel response; do
+    check "as they are kept: $kind" diff -r "$kept/$kind" "$written/$kind"
+    for message in "$kept/$kind"/*.hex; do
+        name=$(basename "$message" .hex)
+        check "$kind $name" reads "$kind" "$name"
+    done
 done
 report
