@@ -23,7 +23,7 @@ pub struct Batch {
     /// Copies of the table; unused by calls without one.
     tables: Lined,
     saved: Vec<u8>,
-    /// What is written: an answer, a table, a record or a list.
+    /// What is written: an answer, a table, a record, a list or a message.
     out: Vec<u8>,
     call: Call,
 }
@@ -54,7 +54,9 @@ impl Batch {
             Call::Apply { table, .. } => (table.clone(), table.len()),
             Call::Read { record } | Call::Item { record, .. } => (vec![], record.len()),
             Call::Segment { more, .. } => (vec![], more.len()),
-            Call::ReadCancel { message, .. } => (vec![], message.len()),
+            Call::ReadCancel { message, .. } | Call::ReadResponse { message, .. } => {
+                (vec![], message.len())
+            }
             _ => (vec![], out.len()),
         };
         let calls = (BYTES / bytes).clamp(1, MOST_CALLS);
@@ -103,6 +105,12 @@ impl Batch {
             Call::Segment { first, more, k } => repeat(calls, || unit.segment(first, more, *k)),
             Call::Pack { bytes, lengths, .. } => repeat(calls, || unit.pack(bytes, lengths, out)),
             Call::ReadCancel { message, .. } => repeat(calls, || unit.read_cancel(message, out)),
+            Call::WriteResponse { answer, transaction, .. } => {
+                repeat(calls, || unit.write_response(answer, *transaction, out))
+            }
+            Call::ReadResponse { message, .. } => {
+                repeat(calls, || unit.read_response(message, out))
+            }
         }
     }
 }

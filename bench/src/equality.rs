@@ -13,9 +13,10 @@ const CALLS: u64 = 30_000;
 const CALLS_ON_SEGMENTS: u64 = 20_000;
 /// Most of them on tables once they are converted.
 const CALLS_ON_CONVERSIONS: u64 = 20_000;
-
-/// Each thing that can be wrong with a message alone takes some 42,000.
+/// Each thing that can be wrong with a message alone takes some 46,000.
 const CALLS_ON_CANCELS: u64 = 60_000;
+/// And some 105,000 with two of them and the answers that they are written from.
+const CALLS_ON_RESPONSES: u64 = 130_000;
 
 /// The calls compared, or the first difference.
 pub fn check(workloads: &[Workload]) -> Result<u64, Difference> {
@@ -30,6 +31,7 @@ fn pair(other: &Implementation, workloads: &[Workload]) -> Result<u64, Differenc
     cases.run_segments(cases.compare.calls + CALLS_ON_SEGMENTS)?;
     cases.run_conversions(cases.compare.calls + CALLS_ON_CONVERSIONS)?;
     cases.run_cancels(cases.compare.calls + CALLS_ON_CANCELS)?;
+    cases.run_responses(cases.compare.calls + CALLS_ON_RESPONSES)?;
     for workload in workloads {
         cases.compare.call(workload.call.clone())?;
     }

@@ -1,12 +1,12 @@
 //! The workloads: each is one call, with its buffers as they are before it.
 
 use second::request::*;
-use second::{Answer, Broadcasts, Cell, Layout, Record, Request, Seconds, Table};
+use second::{Answer, Broadcasts, Cell, Layout, Record, Request, Row, Seconds, Table};
 
 use crate::comparison::call::Call;
 use crate::comparison::lists::{packed, Packing, MOST};
-use crate::messages;
-use crate::tables::{heads, identity, old_table, table, Due, IDENTIFIER, SERIAL};
+use crate::messages::{self, TRANSACTION};
+use crate::tables::{head, heads, identity, old_table, table, Due, IDENTIFIER, SERIAL};
 
 pub const MOST_CELLS: usize = 512;
 const SIZES: [usize; 3] = [1, 16, MOST_CELLS];
@@ -20,7 +20,7 @@ const OTHER_SERIAL: u16 = 99;
 pub struct Workload {
     pub name: &'static str,
     /// Cells of the table, or of a message; of a record that is read or written, its items; of a
-    /// list, its segments.
+    /// list, its segments; of a response, its rows.
     pub size: usize,
     pub call: Call,
 }
@@ -149,10 +149,22 @@ fn lists(count: usize) -> Vec<(&'static str, Call)> {
     vec![("find the last segment", find), ("pack a list", pack)]
 }
 
-fn wire(cells: usize) -> Vec<(&'static str, Call)> {
+fn cancels_read(cells: usize) -> Vec<(&'static str, Call)> {
     let listed: Vec<u64> = (0..cells as u64).map(identity).collect();
     let record = vec![0xee; Record::HEADER + Record::ITEM * cells];
     vec![("read a cancel", Call::ReadCancel { message: messages::cancel(&listed), record })]
+}
+
+fn responses(rows: usize) -> Vec<(&'static str, Call)> {
+    let row = |k: u64| Row { identity: head(k).identity, count: Broadcasts(k as u16), content: 0 };
+    let rows: Vec<Row> = (0..rows as u64).map(row).collect();
+    let message = messages::cancel_response(&rows);
+    let room = vec![0xee; Answer::room(CANCEL, rows.len())];
+    let answer = Answer { kind: CANCEL, identifier: IDENTIFIER, serial: SERIAL, rows }.encode();
+    let written = vec![0xee; message.len()];
+    let write = Call::WriteResponse { answer, transaction: TRANSACTION, message: written };
+    let read = Call::ReadResponse { message, answer: room };
+    vec![("write a response", write), ("read a response", read)]
 }
 
 type Family = fn(usize) -> Vec<(&'static str, Call)>;
@@ -172,7 +184,9 @@ pub fn all() -> Vec<Workload> {
     let of_cells = cells.into_iter().flat_map(|of| family(of, &SIZES));
     let of_records = family(records, &RECORD_SIZES);
     let of_lists = family(lists, &LIST_SIZES);
-    of_cells.chain(of_records).chain(of_lists).chain(family(wire, &MESSAGE_SIZES)).collect()
+    let messages: [Family; 2] = [cancels_read, responses];
+    let of_messages = messages.into_iter().flat_map(|of| family(of, &MESSAGE_SIZES));
+    of_cells.chain(of_records).chain(of_lists).chain(of_messages).collect()
 }
 
 /// A second over so many full cells, none due.
