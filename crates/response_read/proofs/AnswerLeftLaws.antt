@@ -24,6 +24,7 @@ use Rattle.wire.specs.declared.Message.{Message}
 use Rattle.wire_judge.specs.Account.{listAt, entriesIn, accountBy, WholeList, Lies}
 use Rattle.wire_judge.specs.declared.Seen.{Seen}
 use Rattle.wire_cells.specs.Listed.{JudgedList, rowsListed}
+use Rattle.wire_cells.proofs.WholeListLaws.{lies-judged}
 use Rattle.responses.specs.ResponseRead.{unnamed}
 use Rattle.response_read.specs.Left.{answerLeft}
 
@@ -43,14 +44,7 @@ module _ (m : Message) (l : List ℕ) (s : Seen) where
 
   module _ (lies : Lies m l s) (own : s .lacks ≡ false) where
     pub part-judged : JudgedList m part
-    part-judged = record { ascends = s .ascends; whole = unfold listAt in of (list m .parse part) (lies .list) }
-      where
-        of : (x : Found (List (Element Entry))) → WholeList (s .end) (s .lacks) (s .ascends) x → WholeList (length part) false (s .ascends) x
-        of nothing e =
-            let inside : s .end - s .start ≤ length (drop (s .start) l) = rw length-drop (omega (arith, lies .ends)) in
-            (length-take-le (s .end - s .start) (drop (s .start) l) inside ∙ omega (arith, e .0), e .1)
-        of (found es []) whole = λ _. whole own
-        of (found es (b ∷ bs)) whole = whole
+    part-judged = lies-judged m l s lies own
 
     pub cells-ascend : ascending (identities Cells) ≡ s .ascends
     unfolding accountBy rowsIn flatMap ascending

@@ -23,7 +23,7 @@ use Rattle.wire.specs.MessageOutcome.{MessageOutcome, refused}
 use Rattle.wire.specs.declared.Message.{Message}
 use Rattle.wire.specs.declared.Message.the-variants.{CancelResponse, WriteReplaceResponse}
 use Rattle.wire.proofs.FrameFormat.{frame-lawful}
-use Rattle.wire_judge.specs.Readers.{frameId}
+use Rattle.wire.specs.Messages.{frameId}
 use Rattle.responses.specs.ResponseRead.{answering, responseRead}
 use Rattle.responses.proofs.ReadLaws.{leftBy, left-by}
 use Rattle.response_read.specs.Left.{meantBy}

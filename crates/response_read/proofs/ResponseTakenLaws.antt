@@ -2,9 +2,7 @@
 use mathlib.Core.Path.{_≡_, sym, ap, ap₂, _∙_}
 use mathlib.Core.List.{List}
 use Prim.Native.Nat.{ℕ, _-_}
-use native.Mathlib.Omega.{arith}
-use lib.ListN.{length, take, drop, length-drop}
-use lib.Seq.{take-all}
+use lib.ListN.{length, take, drop}
 use Rattle.octets.specs.Runs.{Bytes}
 use Rattle.rules.specs.Layout.{current}
 use Rattle.rules.specs.Answer.{answerBytes}
@@ -19,38 +17,27 @@ use Rattle.wire.specs.MessageSaid.{Said, saidIn}
 use Rattle.wire.specs.MessageOutcome.{refused, takenBy}
 use Rattle.wire.specs.declared.Message.{Message}
 use Rattle.wire.proofs.TakingLaws.{taking, taking-outcome}
-use Rattle.wire_judge.specs.Account.{accountBy, Lies}
+use Rattle.wire_judge.specs.Account.{accountBy}
 use Rattle.wire_judge.specs.Readers.{FitMessage}
 use Rattle.wire_judge.specs.declared.Seen.{Seen}
+use Rattle.wire_judge.proofs.LentLaws.{lent, said-lent}
 use Rattle.responses.specs.ResponseRead.{kindAnswered, unnamed, rowTests, responseRead}
 use Rattle.responses.proofs.ReadLaws.{leftBy}
 use Rattle.response_read.specs.Left.{meantBy, answerLeft}
 use Rattle.response_read.proofs.MeantLaws.{meant-left}
 
--- ---- the part of a fit message that is lent on
+-- ---- what was seen in a fit message decides
 
 module _ (m : Message) (b : List ℕ) (start : ℕ) (s : Seen) (fit : FitMessage m b start s) where
-  abbrev lent : List ℕ
-  lent = take (length b - start) (drop start b)
-
-  all-lent : lent ≡ drop start b
-  all-lent = take-all (length b - start) (drop start b) (rw length-drop (omega arith))
-
-  pub lent-lies : Lies m lent s
-  lent-lies = rw all-lent (fit .lies)
-
-  said-lent : accountBy m lent s .says ≡ saidIn m b
-  said-lent = ap (λ (l : List ℕ). accountBy m l s .says) all-lent ∙ sym (fit .says)
-
-  module _ (before : List ℕ) (w : Writing) (buffer : List ℕ) (put : filledBy w buffer ≡ answerLeft (kindAnswered m) (accountBy m lent s .says .cells) before) where
-    lent-taken : takenBy (taking w (s .transaction)) buffer ≡ leftBy m Accepted (accountBy m lent s .says) before
+  module _ (before : List ℕ) (w : Writing) (buffer : List ℕ) (put : filledBy w buffer ≡ answerLeft (kindAnswered m) (accountBy m (lent m b start s fit) s .says .cells) before) where
+    lent-taken : takenBy (taking w (s .transaction)) buffer ≡ leftBy m Accepted (accountBy m (lent m b start s fit) s .says) before
     unfolding answerLeft accountBy
     lent-taken =
-        let rows = accountBy m lent s .says .cells in
+        let rows = accountBy m (lent m b start s fit) s .says .cells in
         taking-outcome (firstOf (rowTests rows (length before))) (answerBytes current (unnamed (kindAnswered m) rows)) before (s .transaction) w buffer put
 
     fit-left : takenBy (taking w (s .transaction)) buffer ≡ leftBy m (messageVerdict m b) (saidIn m b) before
-    fit-left = lent-taken ∙ ap₂ (λ (v : Verdict) (c : Said). leftBy m v c before) (sym (fit .accepted)) said-lent
+    fit-left = lent-taken ∙ ap₂ (λ (v : Verdict) (c : Said). leftBy m v c before) (sym (fit .accepted)) (said-lent m b start s fit)
 
 refused-left : (m : Message) (b before : List ℕ) (x : Refusal) → messageVerdict m b ≡ Refused x → refused x before ≡ leftBy m (messageVerdict m b) (saidIn m b) before
 unfolding fill

@@ -13,7 +13,7 @@ use Rattle.rules.specs.Answer.{answerBytes}
 use Rattle.rules.specs.Applied.{Filled, fill}
 use Rattle.wire.specs.declared.Message.{Message}
 use Rattle.wire.specs.declared.Message.the-variants.{CancelResponse, WriteReplaceResponse}
-use Rattle.wire_judge.specs.Readers.{frameId}
+use Rattle.wire.specs.Messages.{frameId}
 use Rattle.responses.specs.ResponseRead.{unnamed, rowTests}
 
 -- by choice and procedure code alone, which are the first two bytes

@@ -25,14 +25,12 @@ use rules::layout::ANSWER;
 use rules::layout::ROW;
 use wire::Message;
 use wire::Taking;
+use wire::form::WRITE_REPLACE_RESPONSE;
 use wire_cells::cell_at;
 use wire_cells::cell_count;
 use wire_judge::Judged;
 use wire_judge::Seen;
 use wire_judge::judge;
-
-// Choice and procedure code of a WRITE-REPLACE WARNING RESPONSE.
-const COMPLETED: u16 = 0x4014;
 
 // ---- the answer
 
@@ -98,7 +96,7 @@ fn meant(message: &[u8]) -> Message
     if message.len() < 2 {
         return Message::CancelResponse;
     }
-    if get16(message, 0) == COMPLETED {
+    if get16(message, 0) == WRITE_REPLACE_RESPONSE {
         return Message::WriteReplaceResponse;
     }
     Message::CancelResponse

@@ -19,14 +19,14 @@ use Rattle.formats.specs.Format.{Format, number, pair, behind, only, as-if, tim
 use Rattle.formats.specs.Bits.{bits, width, joined}
 use Rattle.aper.specs.Elements.{Element, lengthBytes, determinant, openType, twoBits, reject, head, under, holding, elementOf, elementsOf, fromOne, optional, given}
 use Rattle.wire.specs.Frame.{frame, frameUnder, frameCriticality}
-use Rattle.wire.specs.Messages.{choiceOf, codeOf, transactionId, cellsId, itemId, countSize, known}
+use Rattle.wire.specs.Messages.{choiceOf, codeOf, transactionId, cellsId, itemId, countSize, known, frameId}
 use Rattle.wire.specs.Cells.{item, itemHead, itemUnder, Entry, listed, isItem, entry, entryElement, list}
 use Rattle.wire.specs.MessageTree.{transaction, cells, contents, contentsBy, element, value}
 use Rattle.wire.specs.declared.Message.{Message}
 use Rattle.responses.specs.Response.{assigned, itemFor, entryFor, listFor, elementsFor, responseFor, responseBytes}
 use Rattle.responses.proofs.ListFit.{own-entry}
 use Rattle.responses.proofs.ResponseSizeLaws.{list-contents}
-use Rattle.response_write.specs.Parts.{responseBy, opening, enclosed, itemBytes, itemsBytes, listBytes, elementCount, frameStart, valueBytes}
+use Rattle.response_write.specs.Parts.{responseBy, opening, enclosed, itemBytes, itemsBytes, listBytes, elementCount, valueBytes}
 
 -- an element
 element-bytes : {C : Type 0} (known : ℕ → Bool) (contents : ℕ → Format C) (id : ℕ) (c : C) → elementOf known contents .encode (assigned id c) ≡ enclosed id (contents id .encode c)
@@ -132,7 +132,7 @@ value-bytes counted t h rows =
 -- ---- the frame
 
 frame-bytes : {C : Type 0} (counted : Bool) (f : Format C) (c : C)
-    → frame f .encode (record { choice = choiceOf (responseBy counted); code = codeOf (responseBy counted); criticality = reject; value = c }) ≡ enclosed (frameStart (responseBy counted)) (f .encode c)
+    → frame f .encode (record { choice = choiceOf (responseBy counted); code = codeOf (responseBy counted); criticality = reject; value = c }) ≡ enclosed (frameId (responseBy counted)) (f .encode c)
 unfolding frame behind twoBits as-if only number frameUnder pair frameCriticality inside openType determinant run toBe opening enclosed
 frame-bytes true f c = refl
 frame-bytes false f c = refl
@@ -140,8 +140,8 @@ frame-bytes false f c = refl
 -- ---- all of it
 
 pub response-bytes : (counted : Bool) (t : ℕ) → t < 256 → (rows : List Row)
-    → responseBytes (responseBy counted) t rows ≡ enclosed (frameStart (responseBy counted)) (valueBytes (responseBy counted) t rows)
+    → responseBytes (responseBy counted) t rows ≡ enclosed (frameId (responseBy counted)) (valueBytes (responseBy counted) t rows)
 unfolding responseBytes responseFor
 response-bytes counted t h rows =
     frame-bytes counted (value (responseBy counted)) (elementsFor (responseBy counted) t rows)
-    ∙ ap (enclosed (frameStart (responseBy counted))) (value-bytes counted t h rows)
+    ∙ ap (enclosed (frameId (responseBy counted))) (value-bytes counted t h rows)

@@ -24,7 +24,8 @@ use Rattle.responses.specs.Response.{responseTo, responseOf, responseVerdict, r
 use Rattle.responses.specs.ResponseSize.{valueSize, responseSize}
 use Rattle.responses.proofs.ResponseSizeLaws.{response-size}
 use Rattle.wire.specs.declared.Message.{Message}
-use Rattle.response_write.specs.Parts.{responseBy, opening, openingSize, enclosed, smallRows, RowsOf, listBytes, frontBytes, frontSize, frameStart, valueBytes}
+use Rattle.wire.specs.Messages.{frameId}
+use Rattle.response_write.specs.Parts.{responseBy, opening, openingSize, enclosed, smallRows, RowsOf, listBytes, frontBytes, frontSize, valueBytes}
 use Rattle.response_write.proofs.EncodedLaws.{response-bytes}
 use Rattle.response_write.proofs.SizeLaws.{length-opening, length-value}
 use Rattle.response_write.proofs.StoredLaws.{stored-then}
@@ -35,8 +36,8 @@ response-to kind wired = wired-by kind wired (λ k. rw k) (λ k. rw k)
 
 -- all before the list, and the list
 the-parts : (counted : Bool) (b : List ℕ) (many t : ℕ) → t < 256
-    → enclosed (frameStart (responseBy counted)) (valueBytes (responseBy counted) t (rowsIn b many))
-    ≡ (opening (frameStart (responseBy counted)) (valueSize (responseBy counted) many) ++ frontBytes many t) ++ listBytes (responseBy counted) (rowsIn b many)
+    → enclosed (frameId (responseBy counted)) (valueBytes (responseBy counted) t (rowsIn b many))
+    ≡ (opening (frameId (responseBy counted)) (valueSize (responseBy counted) many) ++ frontBytes many t) ++ listBytes (responseBy counted) (rowsIn b many)
 unfolding enclosed
 the-parts counted b many t byte =
     rw (length-value counted t byte (rowsIn b many), length-rows b many, append-assoc) (unfold valueBytes in rw (length-rows b many))
@@ -71,7 +72,7 @@ module _ (b : List ℕ) where
         abbrev message : Message
         message = responseBy (eqb kind cancelOrKill)
 
-        the-bytes : responseOf (answerOf current b) t ≡ enclosed (frameStart message) (valueBytes message t (rowsIn b many))
+        the-bytes : responseOf (answerOf current b) t ≡ enclosed (frameId message) (valueBytes message t (rowsIn b many))
         the-bytes =
             rw (response-to (answerOf current b .kind) (facts .wired), ← k, rows-given)
             (response-bytes (eqb kind cancelOrKill) t byte (rowsIn b many))
@@ -87,13 +88,13 @@ module _ (b : List ℕ) where
           short-written h = rw (yes, lt-leb (length (responseOf (answerOf current b) t)) (length buffer) (rw (the-size, ← s) h))
 
           pub all-written : size ≤ length buffer → {front after : List ℕ} {at value : ℕ} → value ≡ valueSize message many
-              → front ≡ sets buffer 0 (opening (frameStart message) value ++ frontBytes many t)
+              → front ≡ sets buffer 0 (opening (frameId message) value ++ frontBytes many t)
               → at ≡ openingSize value + frontSize
               → after ≡ sets front at (listBytes message (rowsIn b many))
               → filledBy (Written size) after ≡ responseWritten b t buffer
           unfolding responseWritten responseVerdict fill
           all-written h {front} {after} {at} {value} v p e q =
-              let long : at ≡ 0 + length (opening (frameStart message) value ++ frontBytes many t) = rw (length-append, length-opening) (omega arith) in
+              let long : at ≡ 0 + length (opening (frameId message) value ++ frontBytes many t) = rw (length-append, length-opening) (omega arith) in
               let whole : after ≡ sets buffer 0 (responseOf (answerOf current b) t) =
-              rw (the-bytes, the-parts (eqb kind cancelOrKill) b many t byte, ← v) (stored-then buffer 0 at (opening (frameStart message) value ++ frontBytes many t) (listBytes message (rowsIn b many)) p q long) in
+              rw (the-bytes, the-parts (eqb kind cancelOrKill) b many t byte, ← v) (stored-then buffer 0 at (opening (frameId message) value ++ frontBytes many t) (listBytes message (rowsIn b many)) p q long) in
               rw (yes, le-leb (length (responseOf (answerOf current b) t)) (length buffer) (rw (the-size, ← s) h), whole, s, ← the-size)

@@ -12,7 +12,7 @@ use Rattle.rules.specs.Layout.{current, answerSize, rowSize, mostCells, cellEnd
 use Rattle.rules.specs.Reply.{Row}
 use Rattle.answer.specs.Rows.{rowsIn}
 use Rattle.aper.specs.Elements.{lengthBytes}
-use Rattle.wire.specs.Messages.{choiceOf, codeOf, transactionId, cellsId, itemId, countSize}
+use Rattle.wire.specs.Messages.{transactionId, cellsId, itemId, countSize}
 use Rattle.wire.specs.Readers.{plainSize}
 use Rattle.wire.specs.declared.Message.{Message}
 use Rattle.wire.specs.declared.Message.the-variants.{CancelResponse, WriteReplaceResponse}
@@ -76,10 +76,6 @@ frontSize = 9
 -- all of them but the last as one number
 abbrev pub frontNumber : ℕ → ℕ
 frontNumber many = elementCount many * 256 ^ 5 + (transactionId * 256 ^ 3 + 2 * 256)
-
--- the choice and the procedure code
-abbrev pub frameStart : Message → ℕ
-frameStart m = choiceOf m * 64 * 256 + codeOf m
 
 unfoldable pub valueBytes : Message → ℕ → List Row → List ℕ
 valueBytes m t rows = frontBytes (length rows) t ++ listBytes m rows

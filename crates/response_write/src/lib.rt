@@ -9,10 +9,10 @@ ghost use Rattle.rules.specs.Layout.{mostCells, cellEnd};
 ghost use Rattle.rules.specs.Applied.{filledBy};
 ghost use Rattle.answer.specs.Rows.{rowsIn, rowSaid};
 ghost use Rattle.aper.specs.Elements.{longLength};
-ghost use Rattle.wire.specs.Messages.{cellsId};
+ghost use Rattle.wire.specs.Messages.{frameId, cellsId};
 ghost use Rattle.responses.specs.Response.{responseWritten};
 ghost use Rattle.responses.specs.ResponseSize.{elementSize, entrySize, listedSize};
-ghost use Rattle.response_write.specs.Parts.{responseBy, opening, openingSize, itemStart, itemBytes, RowsOf, listBytes, frontBytes, frontSize, frameStart};
+ghost use Rattle.response_write.specs.Parts.{responseBy, opening, openingSize, itemStart, itemBytes, RowsOf, listBytes, frontBytes, frontSize};
 use answer::Row;
 use answer::kind;
 use answer::row_at;
@@ -25,6 +25,17 @@ use octets::put64;
 use rules::Refusal;
 use rules::Writing;
 use rules::kind::CANCEL_OR_KILL;
+use wire::form::CANCEL_RESPONSE;
+use wire::form::CANCELLED;
+use wire::form::CANCELLED_ITEM;
+use wire::form::COMPLETED;
+use wire::form::COMPLETED_ITEM;
+use wire::form::COUNT;
+use wire::form::IDENTITY_AT;
+use wire::form::IDENTITY_END;
+use wire::form::LISTED_HEAD;
+use wire::form::PADDING;
+use wire::form::WRITE_REPLACE_RESPONSE;
 
 // A length below this has one byte, any other two, and the first bit of them is set.
 const SHORT: usize = 128;
@@ -37,17 +48,17 @@ const START: usize = 3;
 // The number of items less one.
 const COUNTED: usize = 2;
 
-// An item without its count of broadcasts: four bytes before the flags, which are one, and eight for the cell.
-const ITEM: usize = 13;
+// An item of the list without its count of broadcasts, and where its cell stands.
+const ITEM: usize = LISTED_HEAD + IDENTITY_END;
 
-const FLAGS_AT: usize = 4;
+const CELL_AT: usize = LISTED_HEAD + IDENTITY_AT;
 
-const CELL_AT: usize = 5;
+// What such an item begins with, as one number: its id, a criticality of reject and its length.
+const COMPLETED_START: u32 = (COMPLETED_ITEM as u32) * 65536 + (IDENTITY_END as u32);
 
-const BROADCASTS: usize = 2;
-
-// The 36 bits of a cell are followed by 4 of padding.
-const PADDING: u64 = 16;
+const CANCELLED_START: u32 = (CANCELLED_ITEM as u32) * 65536
+    + (IDENTITY_END as u32)
+    + (COUNT as u32);
 
 // The number of elements and the transaction identifier's element but for its last byte, which is the number.
 const FRONT: usize = 9;
@@ -61,37 +72,37 @@ const TRANSACTION: u64 = 0x4e000200;
 // ---- what tells the two responses apart; only the items of a PWS CANCEL RESPONSE have counts
 
 fn frame_start(counted: bool) -> u16
-    ensures { λ r. ⌜ r ≡ frameStart (responseBy counted) ⌝ }
+    ensures { λ r. ⌜ r ≡ frameId (responseBy counted) ⌝ }
 {
     if counted {
-        return 0x4015;
+        return CANCEL_RESPONSE;
     }
-    0x4014
+    WRITE_REPLACE_RESPONSE
 }
 
 fn list_id(counted: bool) -> u16
     ensures { λ r. ⌜ r ≡ cellsId (responseBy counted) ⌝ }
 {
     if counted {
-        return 150;
+        return CANCELLED;
     }
-    146
+    COMPLETED
 }
 
 fn item_start(counted: bool) -> u32
     ensures { λ r. ⌜ r ≡ itemStart (responseBy counted) ⌝ }
 {
     if counted {
-        return 0x97000b;
+        return CANCELLED_START;
     }
-    0x930009
+    COMPLETED_START
 }
 
 fn item_size(counted: bool) -> usize
     ensures { λ r. ⌜ r ≡ entrySize (responseBy counted) ⌝ }
 {
     if counted {
-        return ITEM + BROADCASTS;
+        return ITEM + COUNT;
     }
     ITEM
 }
@@ -142,7 +153,7 @@ fn put_opening(message: &mut [u8], at: usize, start: u16, n: usize) -> usize
 fn put_front(message: &mut [u8], counted: bool, value: usize, many: usize, transaction: u8) -> usize
     requires { ⌜ value < longLength ⌝ }
     requires { ⌜ openingSize value + frontSize ≤ length (now message) ⌝ }
-    ensures { λ r. ⌜ (now (message .exit) ≡ sets (now (message .entry)) 0 (opening (frameStart (responseBy counted)) value ++ frontBytes many transaction)) × (r ≡ openingSize value + frontSize) ⌝ }
+    ensures { λ r. ⌜ (now (message .exit) ≡ sets (now (message .entry)) 0 (opening (frameId (responseBy counted)) value ++ frontBytes many transaction)) × (r ≡ openingSize value + frontSize) ⌝ }
 {
     let at = put_opening(message, 0, frame_start(counted), value);
     put64(
@@ -160,7 +171,7 @@ fn put_item(message: &mut [u8], at: usize, counted: bool, row: Row)
     ensures { λ _. ⌜ now (message .exit) ≡ sets (now (message .entry)) at (itemBytes (responseBy counted) (rowSaid row)) ⌝ }
 {
     put32(message, at, item_start(counted));
-    put8(message, at + FLAGS_AT, 0);
+    put8(message, at + LISTED_HEAD, 0);
     put64(message, at + CELL_AT, row.identity.0 * PADDING);
     if !counted {
         return;

@@ -2,7 +2,8 @@
 use mathlib.Core.Path.{_≡_, refl, sym, ap, _∙_}
 use mathlib.Core.Bool.{Bool, true, false, _&&_, _||_}
 use mathlib.Core.List.{List, [], _∷_, map}
-use Prim.Native.Nat.{ℕ, _+_, _<_, _≤_}
+use Prim.Native.Nat.{ℕ, _+_, _*_, _<_, _≤_}
+use mir.Val.{boolByte}
 use native.Mathlib.Omega.{arith}
 use lib.ListN.{length, drop, drop-of-length-le}
 use lib.Seq.{drop-cons}
@@ -21,7 +22,7 @@ use Rattle.wire.specs.Cells.{Entry, entryElement, list}
 use Rattle.wire.specs.Messages.{theCells}
 use Rattle.wire.specs.MessageTree.{cells, contentsBy}
 use Rattle.wire.specs.MessageRefusals.{rejectsEntry, foreignEntry}
-use Rattle.wire.specs.Readers.{kept, numberOfEntry, entryNumbers, marksOf, EntryAt, Tells}
+use Rattle.wire.specs.Readers.{listHeard, kept, numberOfEntry, entryNumbers, marksOf, EntryAt, Tells}
 use Rattle.wire.specs.declared.Message.{Message}
 use Rattle.wire.specs.declared.Listed.the-variants.{Upto, NoEntry}
 use Rattle.wire.specs.declared.Heard.{Heard}
@@ -128,3 +129,18 @@ module _ (m : Message) (l : List ℕ) where
     list-fine h =
         let all : length l ≤ at = omega arith in
         sym (tells (found s (drop at l)) e ∙ ap (λ (r : List ℕ). summed asCells (allOf (found s r) [])) (drop-of-length-le l all))
+
+-- as one number
+number-told : (r f a : Bool) → listHeard (boolByte r * 4 + boolByte f * 2 + boolByte a) ≡ Cells r f a
+number-told true true true = refl
+number-told true true false = refl
+number-told true false true = refl
+number-told true false false = refl
+number-told false true true = refl
+number-told false true false = refl
+number-told false false true = refl
+number-told false false false = refl
+
+pub list-told : (m : Message) (l : List ℕ) (r f a : Bool) (least at : ℕ) → ListGoal m l ≡ found (r, (f, (a, least))) (drop at l) → at ≡ length l
+    → Tells (contentsBy m theCells) l (listHeard (boolByte r * 4 + boolByte f * 2 + boolByte a))
+list-told m l r f a least at e h = rw (number-told r f a) (list-fine m l (r, (f, (a, least))) at e h)

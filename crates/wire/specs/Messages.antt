@@ -1,7 +1,7 @@
 -- The three messages, and what tells each from the others: the frame's choice and procedure code, the elements that it knows, its list and the list's items.
 use mathlib.Core.Bool.{Bool, true, false, cond}
 use mathlib.Core.List.{List, [], _∷_}
-use Prim.Native.Nat.{ℕ}
+use Prim.Native.Nat.{ℕ, _+_, _*_}
 use lib.Dec.{eqb}
 use Rattle.wire.specs.Frame.{initiatingMessage, successfulOutcome, writeReplaceWarning, pwsCancel}
 use Rattle.wire.specs.declared.Message.{Message}
@@ -18,6 +18,10 @@ abbrev pub codeOf : Message → ℕ
 codeOf CancelRequest = pwsCancel
 codeOf CancelResponse = pwsCancel
 codeOf WriteReplaceResponse = writeReplaceWarning
+
+-- both as one number, which stands where an element has its id
+abbrev pub frameId : Message → ℕ
+frameId m = choiceOf m * 16384 + codeOf m
 
 -- ---- ids: in each message they ascend
 

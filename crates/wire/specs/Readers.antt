@@ -1,8 +1,9 @@
 -- What readers of an element's contents answer: all of the bytes that are lent are read, and what the rules ask for is kept.
 use mathlib.Core.Path.{_≡_}
-use mathlib.Core.Bool.{Bool, true, false}
+use mathlib.Core.Bool.{Bool, true, false, cond}
+use lib.Dec.{eqb, ltb}
 use mathlib.Core.List.{List, [], _∷_, map}
-use Prim.Native.Nat.{ℕ, _+_, _-_, _/_, _<_, _≤_}
+use Prim.Native.Nat.{ℕ, _+_, _-_, _/_, _%_, _<_, _≤_}
 use lib.ListN.{length, take, drop}
 use Rattle.octets.specs.Runs.{gets}
 use Rattle.octets.specs.Numbers.{be}
@@ -105,6 +106,10 @@ kept (cells es) = Cells (any rejectsEntry es) (any foreignEntry es) (ascending (
 kept cancelAll = CancelAll
 kept (notification n) = Notification (any marked (n .extensions)) (n .identifier) (n .serial)
 kept (other s) = Unknown
+
+-- what a list tells as one number: 8 where it is none, else 4 for a reject, 2 for an item that is not a cell's, 1 for cells that ascend
+abbrev pub listHeard : ℕ → Heard
+listHeard n = cond (ltb n 8) (Cells (eqb (n / 4 % 2) 1) (eqb (n / 2 % 2) 1) (eqb (n % 2) 1)) Bad
 
 abbrev pub heardBy : Heard → Found Heard
 heardBy (Transaction t) = found (Transaction t) []

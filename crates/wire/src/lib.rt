@@ -1,19 +1,28 @@
 // PWS CANCEL REQUEST and the two responses (document 02, 5/13 and 6/13): as trees and formats, their refusals and what they say in specs/; here what each
 // element tells. Contents are lent: each reader takes all of its bytes, and nothing else.
-pub mod list;
+pub mod form;
+mod list;
 
 ghost use mathlib.Core.Path.{_≡_};
-ghost use Prim.Native.Nat.{_≤_};
+ghost use Prim.Native.Nat.{_+_, _/_, _≤_};
 ghost use lib.ListN.{length};
+ghost use Rattle.octets.specs.Runs.{gets};
+ghost use Rattle.octets.specs.Numbers.{be};
 ghost use Rattle.wire.specs.Messages.{Name, theTransaction, theRequested, theIndicator, theNotification, cellsId, besideName, furtherName};
 ghost use Rattle.wire.specs.declared.Message.the-variants.{CancelRequest};
 ghost use Rattle.wire.specs.MessageTree.{contents, contentsBy};
 ghost use Rattle.wire.specs.Readers.{NoteAt, Tells};
-use crate::list::cells;
+use crate::form::CANCELLED;
+use crate::form::COMPLETED;
+use crate::form::PADDING;
+use crate::form::TO_BE_CANCELLED;
+use crate::list::heard;
+use crate::list::told;
 use aper::Run;
 use aper::given_at;
 use octets::get8;
 use octets::get16;
+use octets::get64;
 use rules::Refusal;
 
 // The messages that are read.
@@ -66,6 +75,14 @@ enum Listed {
 enum Grade {
     Fine(bool, u64),
     NoItem,
+}
+
+// NR CGI in eight bytes, the last four bits of them padding.
+pub fn identity_at(s: &[u8], at: usize) -> u64
+    requires { ⌜ at + 8 ≤ length (now s) ⌝ }
+    ensures { λ r. ⌜ r ≡ be (gets (now (s .entry)) at 8) / 16 ⌝ }
+{
+    get64(s, at) / PADDING
 }
 
 fn transaction(part: &[u8]) -> Heard
@@ -150,9 +167,9 @@ fn cells_id(m: Message) -> u16
     ensures { λ r. ⌜ r ≡ cellsId m ⌝ }
 {
     match m {
-        Message::CancelRequest => 148,
-        Message::CancelResponse => 150,
-        Message::WriteReplaceResponse => 146,
+        Message::CancelRequest => TO_BE_CANCELLED,
+        Message::CancelResponse => CANCELLED,
+        Message::WriteReplaceResponse => COMPLETED,
     }
 }
 
@@ -179,7 +196,7 @@ fn in_request(id: u16, part: &[u8]) -> Heard
     ensures { λ r. ⌜ Tells (contentsBy CancelRequest (besideName CancelRequest id)) (now (part .entry)) r ⌝ }
 {
     if id == cells_id(Message::CancelRequest) {
-        return cells(Message::CancelRequest, part);
+        return heard(told(Message::CancelRequest, part));
     }
     further(id, part)
 }
@@ -189,7 +206,7 @@ fn in_response(m: Message, id: u16, part: &[u8]) -> Heard
     ensures { λ r. ⌜ Tells (contentsBy m (besideName m id)) (now (part .entry)) r ⌝ }
 {
     if id == cells_id(m) {
-        return cells(m, part);
+        return heard(told(m, part));
     }
     Heard::Unknown
 }

@@ -1,16 +1,22 @@
 // The list of cells, by the message that it stands in: its items, with and without extensions.
 ghost use mathlib.Core.Path.{_≡_};
-ghost use Prim.Native.Nat.{_+_, _/_, _≤_};
+ghost use Prim.Native.Nat.{_≤_};
 ghost use lib.ListN.{length};
-ghost use Rattle.octets.specs.Runs.{gets};
-ghost use Rattle.octets.specs.Numbers.{be};
 ghost use Rattle.wire.specs.Messages.{theCells, itemId, countSize};
 ghost use Rattle.wire.specs.MessageTree.{contentsBy};
-ghost use Rattle.wire.specs.Readers.{ItemGraded, GradeLies, PlainItem, EntryAt, Tells};
+ghost use Rattle.wire.specs.Readers.{ItemGraded, GradeLies, PlainItem, EntryAt, Tells, listHeard};
 use crate::Grade;
 use crate::Heard;
 use crate::Listed;
 use crate::Message;
+use crate::form::CANCELLED_ITEM;
+use crate::form::COMPLETED_ITEM;
+use crate::form::COUNT;
+use crate::form::IDENTITY_AT;
+use crate::form::IDENTITY_END;
+use crate::form::LISTED_HEAD;
+use crate::form::TO_BE_CANCELLED_ITEM;
+use crate::identity_at;
 use aper::CRITICALITIES;
 use aper::REJECT;
 use aper::Run;
@@ -20,29 +26,23 @@ use aper::given_at;
 use octets::get8;
 use octets::get16;
 use octets::get32;
-use octets::get64;
 
-// An item's bytes up to the count or the extensions, and the last of them, of which four bits are padding.
-const IDENTITY_END: usize = 9;
-
+// The last byte of NR CGI, of which four bits are padding; in the list it stands behind the head of its entry.
 const LAST_OF_IDENTITY: usize = IDENTITY_END - 1;
-
-const PADDING: u64 = 16;
-
-// An item in the list stands behind its id, criticality and length.
-const LISTED_HEAD: usize = 4;
 
 const LAST_LISTED: usize = LISTED_HEAD + LAST_OF_IDENTITY;
 
 const MOST_LISTED: usize = 512;
 
+const NO_LIST: u8 = 8;
+
 fn item_id(m: Message) -> u16
     ensures { λ r. ⌜ r ≡ itemId m ⌝ }
 {
     match m {
-        Message::CancelRequest => 149,
-        Message::CancelResponse => 151,
-        Message::WriteReplaceResponse => 147,
+        Message::CancelRequest => TO_BE_CANCELLED_ITEM,
+        Message::CancelResponse => CANCELLED_ITEM,
+        Message::WriteReplaceResponse => COMPLETED_ITEM,
     }
 }
 
@@ -52,17 +52,9 @@ fn count_bytes(m: Message) -> usize
 {
     match m {
         Message::CancelRequest => 0,
-        Message::CancelResponse => 2,
+        Message::CancelResponse => COUNT,
         Message::WriteReplaceResponse => 0,
     }
-}
-
-// NR CGI in eight bytes, the last four bits of them padding.
-pub fn identity_at(s: &[u8], at: usize) -> u64
-    requires { ⌜ at + 8 ≤ length (now s) ⌝ }
-    ensures { λ r. ⌜ r ≡ be (gets (now (s .entry)) at 8) / 16 ⌝ }
-{
-    get64(s, at) / PADDING
 }
 
 // Two sets of extensions may follow the fixed bytes, NR CGI's first; between them the count, if there is one.
@@ -85,7 +77,7 @@ fn item_grade(m: Message, s: &[u8]) -> Grade
                     Run::NoRun => Grade::NoItem,
                     Run::Upto(end, second) => {
                         if end == s.len() {
-                            return Grade::Fine(first | second, identity_at(s, 1));
+                            return Grade::Fine(first | second, identity_at(s, IDENTITY_AT));
                         }
                         Grade::NoItem
                     }
@@ -125,7 +117,7 @@ fn entry_at(m: Message, s: &[u8], at: usize) -> Listed
             at + LISTED_HEAD + IDENTITY_END + count_bytes(m),
             false,
             false,
-            identity_at(s, at + LISTED_HEAD + 1),
+            identity_at(s, at + LISTED_HEAD + IDENTITY_AT),
         );
     }
     match element_at(s, at) {
@@ -145,16 +137,17 @@ fn entry_at(m: Message, s: &[u8], at: usize) -> Listed
     }
 }
 
+// What the list tells, as one number: a call hands a number over in a register, and an enum with fields through memory.
 // `least` is the least number that the next cell may have, where cells ascend.
-pub fn cells(m: Message, s: &[u8]) -> Heard
-    ensures { λ r. ⌜ Tells (contentsBy m theCells) (now (s .entry)) r ⌝ }
+pub fn told(m: Message, s: &[u8]) -> u8
+    ensures { λ r. ⌜ Tells (contentsBy m theCells) (now (s .entry)) (listHeard r) ⌝ }
 {
     if s.len() < 2 {
-        return Heard::Bad;
+        return NO_LIST;
     }
     let last = get16(s, 0) as usize;
     if MOST_LISTED <= last {
-        return Heard::Bad;
+        return NO_LIST;
     }
     let mut left = last + 1;
     let mut at: usize = 2;
@@ -164,7 +157,7 @@ pub fn cells(m: Message, s: &[u8]) -> Heard
     let mut least: u64 = 0;
     while 0 < left {
         match entry_at(m, s, at) {
-            Listed::NoEntry => return Heard::Bad,
+            Listed::NoEntry => return NO_LIST,
             Listed::Upto(end, rejects, is_foreign, identity) => {
                 rejected = rejected | rejects;
                 foreign = foreign | is_foreign;
@@ -176,7 +169,16 @@ pub fn cells(m: Message, s: &[u8]) -> Heard
         }
     }
     if at != s.len() {
+        return NO_LIST;
+    }
+    (rejected as u8) * 4 + (foreign as u8) * 2 + (ascends as u8)
+}
+
+pub fn heard(told: u8) -> Heard
+    ensures { λ r. ⌜ r ≡ listHeard told ⌝ }
+{
+    if NO_LIST <= told {
         return Heard::Bad;
     }
-    Heard::Cells(rejected, foreign, ascends)
+    Heard::Cells(told / 4 % 2 == 1, told / 2 % 2 == 1, told % 2 == 1)
 }

@@ -15,7 +15,9 @@ use octets::get16;
 use rules::Broadcasts;
 use rules::CellIdentity;
 use wire::Message;
-use wire::list::identity_at;
+use wire::form::IDENTITY_AT;
+use wire::form::IDENTITY_END;
+use wire::identity_at;
 
 // A cell of the list, its count of broadcasts and where its entry ends.
 pub struct Cell {
@@ -26,11 +28,6 @@ pub struct Cell {
 
 // An entry's length stands behind its id and its criticality.
 const LENGTH_AT: usize = 3;
-
-// In an item, NR CGI stands behind a byte of flags, and its extensions behind that.
-const IDENTITY_AT: usize = 1;
-
-const IDENTITY_END: usize = 9;
 
 // How many cells a list has; none where there is no list.
 pub fn cell_count(m: Message, cells: &[u8]) -> usize

@@ -20,11 +20,11 @@ use Rattle.formats.proofs.ReadLaws.{number-cut, number-found}
 use Rattle.aper.specs.Elements.{openType, Element, twoBits, head, under, holding, plain}
 use Rattle.aper.specs.Readers.{ElementAt}
 use Rattle.aper.specs.declared.Step.the-variants.{One, NoElement}
-use Rattle.wire.specs.Messages.{choiceOf, codeOf}
+use Rattle.wire.specs.Messages.{choiceOf, codeOf, frameId}
 use Rattle.wire.specs.Frame.{Frame, codeSize, frameCriticality, frameUnder, frame, outer}
 use Rattle.wire.specs.declared.Message.{Message}
 use Rattle.wire.specs.declared.Message.the-variants.{CancelRequest, CancelResponse, WriteReplaceResponse}
-use Rattle.wire_judge.specs.Readers.{frameId, ours, FramedAs}
+use Rattle.wire_judge.specs.Readers.{ours, FramedAs}
 use Rattle.wire_judge.specs.declared.Framed.the-variants.{This, Another, NoFrame}
 
 -- ---- behind an id: a criticality and an open type

@@ -4,4 +4,5 @@ pub mod ElementsLaws
 pub mod FrameLaws
 pub mod AccountLaws
 pub mod JudgeLaws
+pub mod LentLaws
 pub mod Once

@@ -2,7 +2,7 @@
 use mathlib.Core.Path.{_≡_}
 use mathlib.Core.Bool.{Bool, true, false, cond, _&&_, _||_}
 use mathlib.Core.List.{List, [], _∷_}
-use Prim.Native.Nat.{ℕ, _+_, _*_, _≤_}
+use Prim.Native.Nat.{ℕ, _≤_}
 use lib.Dec.{eqb, ltb}
 use lib.ListN.{length, drop}
 use Rattle.octets.specs.Runs.{gets}
@@ -12,7 +12,6 @@ use Rattle.formats.specs.Format.{Found, nothing, found, allOf}
 use Rattle.formats.specs.Summary.{summed, gathered}
 use Rattle.aper.specs.Elements.{reject, criticalities}
 use Rattle.wire.specs.Frame.{Frame, outer}
-use Rattle.wire.specs.Messages.{choiceOf, codeOf}
 use Rattle.wire.specs.MessageTree.{element, value}
 use Rattle.wire.specs.MessageRefusals.{isOf, messageVerdict}
 use Rattle.wire.specs.MessageSaid.{saidIn}
@@ -35,10 +34,6 @@ use Rattle.wire_judge.specs.declared.Judged.the-variants.{Fine, Unfit}
 
 abbrev pub Extended : List ℕ → Type 0
 Extended l = be (gets l 0 1) ≡ 192
-
--- choice and procedure code, read as an element's id
-abbrev pub frameId : Message → ℕ
-frameId m = choiceOf m * 16384 + codeOf m
 
 abbrev pub ours : Message → Frame (List ℕ) → List (List ℕ)
 ours m f = cond (isOf m f) (f .value ∷ []) []

@@ -2,31 +2,29 @@
 ghost use mathlib.Core.Path.{_≡_};
 ghost use Prim.Native.Nat.{_≤_};
 ghost use lib.ListN.{length};
-ghost use Rattle.wire_judge.specs.Readers.{Extended, frameId, FramedAs};
+ghost use Rattle.wire.specs.Messages.{frameId};
+ghost use Rattle.wire_judge.specs.Readers.{Extended, FramedAs};
 use crate::Framed;
 use aper::CRITICALITIES;
 use aper::Step;
 use aper::element_at;
 use octets::get8;
 use wire::Message;
+use wire::form::CANCEL_REQUEST;
+use wire::form::CANCEL_RESPONSE;
+use wire::form::WRITE_REPLACE_RESPONSE;
 
 // Choice-extension, whose id has two bytes; of the other choices the procedure code has one, so that choice and code stand where an element has its id.
 const CHOICE_EXTENSION: u8 = 192;
-
-const SUCCESSFUL_OUTCOME: u16 = 64 * 256;
-
-const WRITE_REPLACE_WARNING: u16 = 20;
-
-const PWS_CANCEL: u16 = 21;
 
 // Choice and procedure code of a message.
 fn frame_id(m: Message) -> u16
     ensures { λ r. ⌜ r ≡ frameId m ⌝ }
 {
     match m {
-        Message::CancelRequest => PWS_CANCEL,
-        Message::CancelResponse => SUCCESSFUL_OUTCOME + PWS_CANCEL,
-        Message::WriteReplaceResponse => SUCCESSFUL_OUTCOME + WRITE_REPLACE_WARNING,
+        Message::CancelRequest => CANCEL_REQUEST,
+        Message::CancelResponse => CANCEL_RESPONSE,
+        Message::WriteReplaceResponse => WRITE_REPLACE_RESPONSE,
     }
 }
 

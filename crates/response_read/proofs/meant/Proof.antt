@@ -1,6 +1,6 @@
 -- `meant` tells the response by choice and procedure code: by its two tests.
 use borrow.Author.Tests.{le-leb, lt-leb, eq-eqb, ne-eqb}
-use Rattle.wire_judge.specs.Readers.{frameId}
+use Rattle.wire.specs.Messages.{frameId}
 use Rattle.wire.specs.declared.Message.the-variants.{WriteReplaceResponse}
 use Rattle.response_read.specs.Left.{meantBy}
 use borrow.Author.Needs.{needs}

@@ -2,7 +2,8 @@
 use Rattle.octets.specs.Runs.{Bytes}
 use Rattle.rules.specs.declared.Writing.the-variants.{Written, Unwritten}
 use Rattle.wire_judge.specs.Readers.{FitMessage}
-use Rattle.response_read.proofs.ResponseTakenLaws.{not-taken, lent-lies, fit-taken}
+use Rattle.wire_judge.proofs.LentLaws.{lent-lies}
+use Rattle.response_read.proofs.ResponseTakenLaws.{not-taken, fit-taken}
 use borrow.Author.Needs.{needs}
 use Rattle.response_read.proofs.read_response.Statement.{statement}
 use Rattle.response_read.proofs.read_response.Tie as tie

@@ -3,11 +3,6 @@ use Rattle.wire.proofs.HearLaws.{requested-tells, indicator-tells, noti
 use borrow.Author.Needs.{needs}
 use Rattle.wire.proofs.further.Statement.{statement}
 use Rattle.wire.proofs.further.Tie as tie
-use Rattle.wire.proofs.further.Reads as reads
-use Rattle.wire.proofs.further.Lts as lts
-use Rattle.wire.proofs.indicator.Reads as indicator-reads
-use Rattle.wire.proofs.notification.Reads as notification-reads
-use Rattle.wire.proofs.requested.Reads as requested-reads
 
 requested-requires : tie.Need-requested-requires
 requested-requires c κs = search needs

@@ -7,11 +7,6 @@ use Rattle.wire.proofs.HearLaws.{transaction-tells, beside-tells}
 use borrow.Author.Needs.{needs}
 use Rattle.wire.proofs.hear.Statement.{statement}
 use Rattle.wire.proofs.hear.Tie as tie
-use Rattle.wire.proofs.hear.Reads as reads
-use Rattle.wire.proofs.hear.Lts as lts
-use Rattle.wire.proofs.in_request.Reads as in-request-reads
-use Rattle.wire.proofs.in_response.Reads as in-response-reads
-use Rattle.wire.proofs.transaction.Reads as transaction-reads
 
 -- the messages are told apart by their items' ids
 other-id : itemId CancelResponse ≡ itemId CancelRequest → ⊥

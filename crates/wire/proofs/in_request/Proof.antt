@@ -5,20 +5,18 @@ use Rattle.wire.proofs.HearLaws.{cells-tell, further-tells}
 use borrow.Author.Needs.{needs}
 use Rattle.wire.proofs.in_request.Statement.{statement}
 use Rattle.wire.proofs.in_request.Tie as tie
-use Rattle.wire.proofs.in_request.Reads as reads
-use Rattle.wire.proofs.in_request.Lts as lts
-use Rattle.wire.proofs.cells_id.Reads as cells-id-reads
-use Rattle.wire.proofs.further.Reads as further-reads
-use Rattle.wire.proofs.list.cells.Reads as cells-reads
 
 cells-id-requires : tie.Need-cells-id-requires
 cells-id-requires c κs = search needs
 
-cells-requires : tie.Need-cells-requires
-cells-requires c κs = search needs
+told-requires : tie.Need-told-requires
+told-requires c κs = search needs
+
+heard-requires : tie.Need-heard-requires
+heard-requires c κs = search needs
 
 returns : tie.Need-returns
-returns c = cells-tell CancelRequest _ _ (c .cells .result) (c .before .if1 .taken ∙ c .before .before .cells-id .ensures) (c .cells .ensures)
+returns c = cells-tell CancelRequest _ _ (c .heard .result) (c .before .before .if1 .taken ∙ c .before .before .before .cells-id .ensures) (rw (c .heard .ensures) (c .before .told .ensures))
 
 further-requires : tie.Need-further-requires
 further-requires c κs = search needs
@@ -28,4 +26,4 @@ returns-2 c = further-tells CancelRequest _ _ (c .further .result) (λ e. c .bef
 
 pub in-request-spec : {M : Type 1} → statement M
 in-request-spec =
-    tie.close (tie.spec cells-id-requires cells-requires returns further-requires returns-2)
+    tie.close (tie.spec cells-id-requires told-requires heard-requires returns further-requires returns-2)

@@ -11,11 +11,6 @@ use Rattle.wire_cells.proofs.ComeLaws.{ToCome, none-come, come-start, come-done
 use Rattle.wire_cancel.proofs.StoredLaws.{itemOf, item-sized, items-stored}
 use Rattle.wire_cancel.proofs.put_cells.Statement.{statement}
 use Rattle.wire_cancel.proofs.put_cells.Tie as tie
-use Rattle.wire_cancel.proofs.put_cells.Reads as reads
-use Rattle.wire_cancel.proofs.put_cells.Lts as lts
-use Rattle.octets.proofs.get16.Reads as get16-reads
-use Rattle.octets.proofs.put64.Reads as put64-reads
-use Rattle.wire_cells.proofs.cell_at.Reads as cell-at-reads
 
 abbrev Inv-loop : tie.InvT-loop
 Inv-loop buffer₀ cells left₀ at₀ out₀ buffer left at out = ToCome CancelRequest itemOf (itemSize current) recordSize item-sized buffer₀ cells buffer left at out

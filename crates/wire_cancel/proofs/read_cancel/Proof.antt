@@ -2,7 +2,8 @@
 use Rattle.wire.specs.declared.Message.the-variants.{CancelRequest}
 use Rattle.wire_judge.specs.Readers.{FitMessage}
 use Rattle.rules.specs.declared.Writing.the-variants.{Written, Unwritten}
-use Rattle.wire_cancel.proofs.TakenLaws.{not-taken, lent-lies, fit-taken}
+use Rattle.wire_judge.proofs.LentLaws.{lent-lies}
+use Rattle.wire_cancel.proofs.TakenLaws.{not-taken, fit-taken}
 use borrow.Author.Needs.{needs}
 use Rattle.wire_cancel.proofs.read_cancel.Statement.{statement}
 use Rattle.wire_cancel.proofs.read_cancel.Tie as tie
@@ -35,7 +36,7 @@ part-put-record-end c = search needs
 put-record-requires : tie.Need-put-record-requires
 put-record-requires c κs =
     let s : Fit = c .before .before .before in
-    (lent-lies _ _ _ (fit s), fit s .whole)
+    (lent-lies _ _ _ _ (fit s), fit s .whole)
 
 enum-known-refusal-2 : tie.Need-enum-known-refusal-2
 enum-known-refusal-2 c = search needs

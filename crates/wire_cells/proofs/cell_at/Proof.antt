@@ -11,11 +11,6 @@ use Rattle.wire_cells.proofs.EntryLaws.{entry-head, entry-length, entry
 use borrow.Author.Needs.{needs}
 use Rattle.wire_cells.proofs.cell_at.Statement.{statement}
 use Rattle.wire_cells.proofs.cell_at.Tie as tie
-use Rattle.wire_cells.proofs.cell_at.Reads as reads
-use Rattle.wire_cells.proofs.cell_at.Lts as lts
-use Rattle.aper.proofs.length_at.Reads as length-at-reads
-use Rattle.wire.proofs.list.identity_at.Reads as identity-at-reads
-use Rattle.wire_cells.proofs.count_in.Reads as count-in-reads
 
 -- an entry whose length was found
 abbrev Found : Type 0

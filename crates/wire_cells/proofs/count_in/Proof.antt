@@ -6,11 +6,6 @@ use Rattle.wire_cells.proofs.CountLaws.{uncounted, fixed-bytes, count-m
 use borrow.Author.Needs.{needs}
 use Rattle.wire_cells.proofs.count_in.Statement.{statement}
 use Rattle.wire_cells.proofs.count_in.Tie as tie
-use Rattle.wire_cells.proofs.count_in.Reads as reads
-use Rattle.wire_cells.proofs.count_in.Lts as lts
-use Rattle.aper.proofs.given_at.Reads as given-at-reads
-use Rattle.octets.proofs.get16.Reads as get16-reads
-use Rattle.octets.proofs.get8.Reads as get8-reads
 
 enum-told : tie.Need-enum-told
 enum-told c = search needs

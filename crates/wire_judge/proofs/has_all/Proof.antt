@@ -2,8 +2,6 @@
 use borrow.Author.Needs.{needs}
 use Rattle.wire_judge.proofs.has_all.Statement.{statement}
 use Rattle.wire_judge.proofs.has_all.Tie as tie
-use Rattle.wire_judge.proofs.has_all.Reads as reads
-use Rattle.wire_judge.proofs.has_all.Lts as lts
 
 enum-told : tie.Need-enum-told
 enum-told c = search needs

@@ -3,11 +3,6 @@ use Rattle.wire_judge.proofs.JudgeLaws.{unframed, another, unwalked, re
 use borrow.Author.Needs.{needs}
 use Rattle.wire_judge.proofs.judge.Statement.{statement}
 use Rattle.wire_judge.proofs.judge.Tie as tie
-use Rattle.wire_judge.proofs.judge.Reads as reads
-use Rattle.wire_judge.proofs.judge.Lts as lts
-use Rattle.wire_judge.proofs.elements.Reads as elements-reads
-use Rattle.wire_judge.proofs.framing.frame.Reads as frame-reads
-use Rattle.wire_judge.proofs.has_all.Reads as has-all-reads
 
 frame-requires : tie.Need-frame-requires
 frame-requires c κs = search needs

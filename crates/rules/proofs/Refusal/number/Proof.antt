@@ -3,8 +3,6 @@ use borrow.Author.Needs.{needs}
 use Rattle.rules.specs.Refusals.{numberOf}
 use Rattle.rules.proofs.Refusal.number.Statement.{statement}
 use Rattle.rules.proofs.Refusal.number.Tie as tie
-use Rattle.rules.proofs.Refusal.number.Reads as reads
-use Rattle.rules.proofs.Refusal.number.Lts as lts
 
 -- src/lib.rt:105:35
 enum-told : tie.Need-enum-told

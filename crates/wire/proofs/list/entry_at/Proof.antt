@@ -9,14 +9,7 @@ use Rattle.wire.proofs.EntryLaws.{entry-plain, entry-none, entry-item, 
 use borrow.Author.Needs.{needs}
 use Rattle.wire.proofs.list.entry_at.Statement.{statement}
 use Rattle.wire.proofs.list.entry_at.Tie as tie
-use Rattle.wire.proofs.list.entry_at.Reads as reads
-use Rattle.wire.proofs.list.entry_at.Lts as lts
 use Rattle.aper.proofs.element_at.Reads as element-at-reads
-use Rattle.wire.proofs.list.count_bytes.Reads as count-bytes-reads
-use Rattle.wire.proofs.list.identity_at.Reads as identity-at-reads
-use Rattle.wire.proofs.list.item_grade.Reads as item-grade-reads
-use Rattle.wire.proofs.list.item_id.Reads as item-id-reads
-use Rattle.wire.proofs.list.plain_item.Reads as plain-item-reads
 
 -- the stage behind an entry that was read with no look into it
 abbrev Read : Type 0

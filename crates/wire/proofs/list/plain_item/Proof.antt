@@ -7,12 +7,8 @@ use Rattle.wire.proofs.PlainLaws.{count-few, plain-there}
 use borrow.Author.Needs.{needs}
 use Rattle.wire.proofs.list.plain_item.Statement.{statement}
 use Rattle.wire.proofs.list.plain_item.Tie as tie
-use Rattle.wire.proofs.list.plain_item.Reads as reads
-use Rattle.wire.proofs.list.plain_item.Lts as lts
 use Rattle.octets.proofs.get32.Reads as get32-reads
 use Rattle.octets.proofs.get8.Reads as get8-reads
-use Rattle.wire.proofs.list.count_bytes.Reads as count-bytes-reads
-use Rattle.wire.proofs.list.item_id.Reads as item-id-reads
 
 count-bytes-requires : tie.Need-count-bytes-requires
 count-bytes-requires c κs = search needs

@@ -5,12 +5,6 @@ use Rattle.wire_judge.proofs.FrameLaws.{frame-empty, frame-padding, fra
 use borrow.Author.Needs.{needs}
 use Rattle.wire_judge.proofs.framing.frame.Statement.{statement}
 use Rattle.wire_judge.proofs.framing.frame.Tie as tie
-use Rattle.wire_judge.proofs.framing.frame.Reads as reads
-use Rattle.wire_judge.proofs.framing.frame.Lts as lts
-use Rattle.aper.proofs.element_at.Reads as element-at-reads
-use Rattle.octets.proofs.get8.Reads as get8-reads
-use Rattle.wire_judge.proofs.framing.extension_frame.Reads as extension-frame-reads
-use Rattle.wire_judge.proofs.framing.frame_id.Reads as frame-id-reads
 
 returns : tie.Need-returns
 returns c = frame-empty _ _ (c .if1 .taken)

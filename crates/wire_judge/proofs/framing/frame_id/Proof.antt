@@ -1,11 +1,9 @@
 -- `frame_id` is the message's own choice and code: the definition itself, by the message.
 use mathlib.Core.Path.{sym, ap}
-use Rattle.wire_judge.specs.Readers.{frameId}
+use Rattle.wire.specs.Messages.{frameId}
 use borrow.Author.Needs.{needs}
 use Rattle.wire_judge.proofs.framing.frame_id.Statement.{statement}
 use Rattle.wire_judge.proofs.framing.frame_id.Tie as tie
-use Rattle.wire_judge.proofs.framing.frame_id.Reads as reads
-use Rattle.wire_judge.proofs.framing.frame_id.Lts as lts
 
 enum-told : tie.Need-enum-told
 enum-told c = search needs
@@ -13,14 +11,8 @@ enum-told c = search needs
 enum-told-2 : tie.Need-enum-told-2
 enum-told-2 c = search needs
 
-add-result : tie.Need-add-result
-add-result c = search needs
-
 enum-told-3 : tie.Need-enum-told-3
 enum-told-3 c = search needs
-
-add-result-2 : tie.Need-add-result-2
-add-result-2 c = search needs
 
 returns : tie.Need-returns
 returns c = ap frameId (sym (c .enum-told .given .1))
@@ -37,9 +29,7 @@ frame-id-spec =
     (tie.spec
     enum-told
     enum-told-2
-    add-result
     enum-told-3
-    add-result-2
     returns
     returns-2
     returns-3)

@@ -1,18 +1,25 @@
--- `cells` tells whether something in the list is marked reject, whether an item is not a cell's and whether the cells ascend: what is still to come decides,
+-- `told` tells, as a number, whether something in the list is marked reject, whether an item is not a cell's and whether the cells ascend: what is still to come decides,
 -- on top of what was gathered so far.
+use mathlib.Core.Bool.{Bool, true, false}
+use Prim.Native.Nat.{_≤_}
 use native.Mathlib.Omega.{arith}
+use mir.Val.{boolByte}
 use borrow.Author.Needs.{needs}
 use Rattle.formats.proofs.WalkLaws.{Walking, walk-breaks, walk-goes, walk-ends}
 use Rattle.wire.specs.Cells.{entryElement}
-use Rattle.wire.proofs.ListLaws.{withEntry, entry-broken, entry-joined, ListGoal, list-none, list-cut, list-many, list-start, list-behind, list-fine}
-use Rattle.wire.proofs.list.cells.Statement.{statement}
-use Rattle.wire.proofs.list.cells.Tie as tie
+use Rattle.wire.proofs.ListLaws.{withEntry, entry-broken, entry-joined, ListGoal, list-none, list-cut, list-many, list-start, list-behind, list-told}
+use Rattle.wire.proofs.list.told.Statement.{statement}
+use Rattle.wire.proofs.list.told.Tie as tie
 
 abbrev Inv-loop : tie.InvT-loop
 Inv-loop m s last left₀ at₀ rejected₀ foreign₀ ascends₀ least₀ left at rejected foreign ascends least = Walking (entryElement m) withEntry (ListGoal m s) s left at (rejected, (foreign, (ascends, least)))
 
 abbrev μ-loop : tie.MeasureT-loop
 μ-loop m s last left₀ at₀ rejected₀ foreign₀ ascends₀ least₀ left at rejected foreign ascends least = left
+
+one-most : (b : Bool) → boolByte b ≤ 1
+one-most true = omega arith
+one-most false = omega arith
 
 returns : tie.Need-returns Inv-loop μ-loop
 returns c = list-none _ _ (list-cut _ _ (c .if1 .taken))
@@ -66,11 +73,32 @@ loop-again c =
 returns-4 : tie.Need-returns-4 Inv-loop μ-loop
 returns-4 c = list-behind _ _ _ _ (walk-ends (c .before .before .loop .inv) (c .before .loop-test .left)) (c .before .before .loop .inv .within) (c .if3 .taken)
 
-returns-5 : tie.Need-returns-5 Inv-loop μ-loop
-returns-5 c = list-fine _ _ _ _ (walk-ends (c .before .before .loop .inv) (c .before .loop-test .left)) (c .if3 .left)
+cast-result : tie.Need-cast-result Inv-loop μ-loop
+cast-result c = search needs
 
-pub cells-spec : {M : Type 1} → statement M
-cells-spec =
+mul-result : tie.Need-mul-result Inv-loop μ-loop
+mul-result c = record { fits = omega (arith, one-most (c .before .before .loop .rejected), one-most (c .before .before .loop .foreign), one-most (c .before .before .loop .ascends)) }
+
+cast-result-2 : tie.Need-cast-result-2 Inv-loop μ-loop
+cast-result-2 c = search needs
+
+mul-result-2 : tie.Need-mul-result-2 Inv-loop μ-loop
+mul-result-2 c = record { fits = omega (arith, one-most (c .before .before .loop .rejected), one-most (c .before .before .loop .foreign), one-most (c .before .before .loop .ascends)) }
+
+add-result : tie.Need-add-result Inv-loop μ-loop
+add-result c = record { fits = omega (arith, one-most (c .before .before .loop .rejected), one-most (c .before .before .loop .foreign), one-most (c .before .before .loop .ascends)) }
+
+cast-result-3 : tie.Need-cast-result-3 Inv-loop μ-loop
+cast-result-3 c = search needs
+
+add-result-2 : tie.Need-add-result-2 Inv-loop μ-loop
+add-result-2 c = record { fits = omega (arith, one-most (c .before .before .loop .rejected), one-most (c .before .before .loop .foreign), one-most (c .before .before .loop .ascends)) }
+
+returns-5 : tie.Need-returns-5 Inv-loop μ-loop
+returns-5 c = list-told _ _ _ _ _ _ _ (walk-ends (c .before .before .loop .inv) (c .before .loop-test .left)) (c .if3 .left)
+
+pub told-spec : {M : Type 1} → statement M
+told-spec =
     tie.close
     (tie.spec
     Inv-loop
@@ -90,4 +118,11 @@ cells-spec =
     loop-less
     loop-again
     returns-4
+    cast-result
+    mul-result
+    cast-result-2
+    mul-result-2
+    add-result
+    cast-result-3
+    add-result-2
     returns-5)
