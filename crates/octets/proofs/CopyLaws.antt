@@ -4,14 +4,11 @@ use mathlib.Core.Path.{_≡_, refl, sym, ap, _∙_}
 use mathlib.Core.List.{List, _++_}
 use Prim.Native.Nat.{ℕ, _+_, _-_, _≤_}
 use native.Mathlib.Omega.{arith}
-use lib.ListN.{length, getD, take, drop, length-drop}
-use lib.Seq.{sets, length-sets, length-take-le, take-all, take-add, ext-getD}
-use borrow.Author.Tests.{ltb-true, ltb-false}
-use lib.Dec.{ltb}
-use mathlib.Core.Bool.{Bool, true, false}
+use lib.ListN.{length, take, drop, length-drop}
+use lib.Seq.{sets, length-sets, length-take-le, take-all, take-add}
 use Rattle.octets.specs.Runs.{gets, Bytes}
 use Rattle.octets.specs.Turned.{le, toLe}
-use Rattle.octets.proofs.RunsLaws.{gets-eq, gets-run, length-gets, bytes-gets, sets-run, getD-sets, getD-sets-before, getD-sets-after}
+use Rattle.octets.proofs.RunsLaws.{gets-eq, gets-run, length-gets, bytes-gets, sets-run, sets-sets}
 use Rattle.octets.proofs.TurnedLaws.{toLe-le}
 
 -- ---- sixteen bytes
@@ -27,30 +24,6 @@ copied-16 to mid to′ from at i front back bytes f b e e′ =
     ∙ ap (λ (l : List ℕ). sets l (at + 8) (gets from (i + 8) 8)) first
     ∙ sets-run (gets from i 8) (gets from (i + 8) 8) to at (at + 8) (ap (λ (n : ℕ). at + n) (sym (length-gets 8 from i)))
     ∙ ap (sets to at) (gets-run 8 from i (i + 8) 8 refl)
-
--- ---- what is stored over a part of itself
-
--- a run over a shorter one at the same index leaves the longer one
-module _ (us vs l : List ℕ) (p : ℕ) (over : length us ≤ length vs) (room : p + length vs ≤ length l) where
-  here : (q : ℕ) (a b : Bool) → ltb q p ≡ a → ltb q (p + length vs) ≡ b → getD (sets (sets l p us) p vs) q 0 ≡ getD (sets l p vs) q 0
-  here q true b e f =
-      let h = ltb-true q p e in
-      getD-sets-before vs (sets l p us) p q h ∙ getD-sets-before us l p q h ∙ sym (getD-sets-before vs l p q h)
-  here q false true e f =
-      let low = ltb-false q p e in
-      let high = ltb-true q (p + length vs) f in
-      let at : q ≡ p + (q - p) = omega arith in
-      let long : length (sets l p us) ≡ length l = length-sets l p us in
-      ap (λ (m : ℕ). getD (sets (sets l p us) p vs) m 0) at ∙ getD-sets vs (sets l p us) p (q - p) (omega arith) (omega arith)
-      ∙ sym (ap (λ (m : ℕ). getD (sets l p vs) m 0) at ∙ getD-sets vs l p (q - p) room (omega arith))
-  here q false false e f =
-      let h = ltb-false q (p + length vs) f in
-      getD-sets-after vs (sets l p us) p q h ∙ getD-sets-after us l p q (omega arith) ∙ sym (getD-sets-after vs l p q h)
-
-  stored-over : sets (sets l p us) p vs ≡ sets l p vs
-  stored-over =
-      ext-getD 0 (sets (sets l p us) p vs) (sets l p vs) (length-sets (sets l p us) p vs ∙ length-sets l p us ∙ sym (length-sets l p vs))
-      (λ q h. here q (ltb q p) (ltb q (p + length vs)) refl refl)
 
 -- ---- the loop
 
@@ -75,7 +48,7 @@ module _ {to₀ : List ℕ} {at : ℕ} {from to : List ℕ} {i : ℕ} (g : Copyi
       }
 
   -- the last sixteen, from j on, are stored over what stands there of them
-  module _ (j : ℕ) (last : j + 16 ≡ length from) (reached : j ≤ i) (room : at + length from ≤ length to₀) where
+  module _ (j : ℕ) (last : j + 16 ≡ length from) (reached : j ≤ i) where
     front : List ℕ
     front = sets to₀ at (take j from)
 
@@ -97,8 +70,7 @@ module _ {to₀ : List ℕ} {at : ℕ} {from to : List ℕ} {i : ℕ} (g : Copyi
     copying-ends to′ e =
         let sixteen : length (gets from j 16) ≡ 16 = length-gets 16 from j in
         let rest : length (take (i - j) (drop j from)) ≡ i - j = length-take-le (i - j) (drop j from) (rw (length-drop j from) (omega (arith, g .within))) in
-        let long : length front ≡ length to₀ = length-sets to₀ at (take j from) in
         e ∙ ap (λ (l : List ℕ). sets l (at + j) (gets from j 16)) parted
-        ∙ stored-over (take (i - j) (drop j from)) (gets from j 16) front (at + j) (omega (arith, g .within)) (omega arith)
+        ∙ sets-sets (take (i - j) (drop j from)) (gets from j 16) front (at + j) (omega (arith, g .within))
         ∙ sets-run (take j from) (gets from j 16) to₀ at (at + j) seam ∙ ap (λ (b : List ℕ). sets to₀ at (take j from ++ b)) (gets-eq 16 from j (omega arith))
         ∙ ap (sets to₀ at) (sym (take-add j 16 from) ∙ take-all (j + 16) from (omega arith))

@@ -56,8 +56,7 @@ returns-2 : tie.Need-returns-2 Inv-loop μ-loop
 returns-2 c =
     let last = c .before .before in
     let done = last .before .before in
-    let start = done .before .before .before .before .before in
-    copying-ends (done .before .loop .inv) _ (omega arith) (done .loop-test .left) (start .pre) _ (last .copy162 .ensures)
+    copying-ends (done .before .loop .inv) _ (omega arith) (done .loop-test .left) _ (last .copy162 .ensures)
 
 pub copy-spec : {M : Type 1} → statement M
 copy-spec =
