@@ -4,3 +4,4 @@ pub mod StepLaws
 pub mod WalkLaws
 pub mod GivenLaws
 pub mod Once
+pub mod HeadLaws

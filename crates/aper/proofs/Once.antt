@@ -10,7 +10,7 @@ use Rattle.octets.specs.Settled.{SettlesResult}
 use Rattle.octets.proofs.Once.{one-outcome}
 use Rattle.formats.proofs.SummaryLaws.{nothing-found, found-value, found-rest}
 use Rattle.aper.specs.Elements.{Element}
-use Rattle.aper.specs.Readers.{lengthBy, LengthLies, stepBy, StepLies, runBy, RunLies}
+use Rattle.aper.specs.Readers.{lengthBy, LengthLies, stepBy, StepLies, ElementAt, runBy, RunLies}
 use Rattle.aper.specs.declared.Length.{Length}
 use Rattle.aper.specs.declared.Length.the-variants.{Of, NoLength}
 use Rattle.aper.specs.declared.Step.{Step}
@@ -22,7 +22,7 @@ use Rattle.aper.proofs.element_at.Reads as element-at
 use Rattle.aper.proofs.given_at.Reads as given-at
 
 -- the same bytes behind two indices
-same-index : (l : List ℕ) (a b : ℕ) → a ≤ length l → b ≤ length l → drop a l ≡ drop b l → a ≡ b
+pub same-index : (l : List ℕ) (a b : ℕ) → a ≤ length l → b ≤ length l → drop a l ≡ drop b l → a ≡ b
 same-index l a b p q e =
     let same : length l - a ≡ length l - b = sym (length-drop a l) ∙ ap length e ∙ length-drop b l in
     omega arith
@@ -58,8 +58,11 @@ step-settled l at (One i c a x) NoElement p q e = absurd (nothing-found (record 
 step-settled l at NoElement (One j d b y) p q e = absurd (nothing-found (record { id = j; criticality = d; contents = take (y - b) (drop b l) }) (drop y l) e)
 step-settled l at NoElement NoElement p q e = refl
 
+pub element-settled : (l : List ℕ) (at : ℕ) (x y : Step) → ElementAt l at x → ElementAt l at y → x ≡ y
+element-settled l at x y p q = step-settled l at x y (p .lies) (q .lies) (one-outcome (p .says) (q .says))
+
 pub element-at-once : SettlesResult element-at.Learnt
-element-at-once κ args r s e f p q = step-settled _ _ r s (p .lies) (q .lies) (one-outcome (p .says) (q .says))
+element-at-once κ args r s e f p q = element-settled _ _ r s p q
 
 run-settled : (l : List ℕ) (at : ℕ) (x y : Run) → RunLies l at x → RunLies l at y → runBy l x ≡ runBy l y → x ≡ y
 run-settled l at (Upto a m) (Upto b n) p q e =
