@@ -1,11 +1,11 @@
 -- The answer of what a response says: which list lies in its bytes, whether its cells ascend, and what is written for it, by the two tests.
-use mathlib.Core.Path.{_≡_, refl, sym, _∙_}
+use mathlib.Core.Path.{_≡_, sym}
 use mathlib.Core.Bool.{true, false}
 use mathlib.Core.List.{List, [], _∷_, flatMap}
 use Prim.Native.Nat.{ℕ, _+_, _-_, _*_, _<_, _≤_}
 use native.Mathlib.Omega.{arith}
-use lib.ListN.{length, take, drop, length-drop}
-use lib.Seq.{sets, length-take-le}
+use lib.ListN.{length}
+use lib.Seq.{sets}
 use borrow.Author.Tests.{le-leb, lt-leb}
 use Rattle.octets.proofs.RunsLaws.{sets-run}
 use Rattle.rules.specs.Lists.{ascending}
@@ -23,37 +23,23 @@ use Rattle.wire.specs.MessageSaid.{rowsIn}
 use Rattle.wire.specs.declared.Message.{Message}
 use Rattle.wire_judge.specs.Account.{listAt, entriesIn, accountBy, WholeList, Lies}
 use Rattle.wire_judge.specs.declared.Seen.{Seen}
-use Rattle.wire_cells.specs.Listed.{JudgedList, rowsListed}
-use Rattle.wire_cells.proofs.WholeListLaws.{lies-judged}
 use Rattle.responses.specs.ResponseRead.{unnamed}
 use Rattle.response_read.specs.Left.{answerLeft}
 
 -- ---- what was seen
 
 module _ (m : Message) (l : List ℕ) (s : Seen) where
-  -- where its list lies
-  abbrev part : List ℕ
-  part = take (s .end - s .start) (drop (s .start) l)
-
   abbrev pub Cells : List Row
   Cells = accountBy m l s .says .cells
 
-  pub cells-said : rowsListed m part ≡ Cells
-  unfolding accountBy listAt rowsListed
-  cells-said = refl
-
-  module _ (lies : Lies m l s) (own : s .lacks ≡ false) where
-    pub part-judged : JudgedList m part
-    part-judged = lies-judged m l s lies own
-
-    pub cells-ascend : ascending (identities Cells) ≡ s .ascends
-    unfolding accountBy rowsIn flatMap ascending
-    cells-ascend = of (listAt m l (s .start) (s .end)) (lies .list)
-      where
-        of : (x : Found (List (Element Entry))) → WholeList (s .end) (s .lacks) (s .ascends) x → ascending (identities (rowsIn (entriesIn x))) ≡ s .ascends
-        of nothing e = sym (e .1)
-        of (found es []) whole = sym (whole own .1)
-        of (found es (b ∷ bs)) whole = absurd whole
+  pub cells-ascend : Lies m l s → s .lacks ≡ false → ascending (identities Cells) ≡ s .ascends
+  unfolding accountBy rowsIn flatMap ascending
+  cells-ascend lies own = of (listAt m l (s .start) (s .end)) (lies .list)
+    where
+      of : (x : Found (List (Element Entry))) → WholeList (s .end) (s .lacks) (s .ascends) x → ascending (identities (rowsIn (entriesIn x))) ≡ s .ascends
+      of nothing e = sym (e .1)
+      of (found es []) whole = sym (whole own .1)
+      of (found es (b ∷ bs)) whole = absurd whole
 
 -- ---- what is written
 

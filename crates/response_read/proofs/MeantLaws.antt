@@ -1,11 +1,11 @@
 -- Which response is meant is said by the first two bytes; which one is answered, by the outer frame. Where there is a frame both are the same, since its bytes
 -- begin with choice and procedure code; where there is none, any message is refused for its encoding.
 use mathlib.Core.Path.{_≡_, refl, sym, ap, _∙_}
-use mathlib.Core.Bool.{cond, _&&_}
+use mathlib.Core.Bool.{Bool, true, false, cond, _&&_}
 use mathlib.Core.List.{List, _∷_, _++_}
 use Prim.Native.Nat.{ℕ, _+_, _*_, _/_, _%_, _^_, _<_}
 use native.Mathlib.Omega.{arith}
-use lib.Dec.{eqb}
+use lib.Dec.{eqb, leb}
 use lib.ListN.{length}
 use borrow.Author.Tests.{le-leb, eq-eqb, ne-eqb, eqb-true, eqb-false}
 use Rattle.octets.specs.Runs.{gets, Bytes}
@@ -21,9 +21,9 @@ use Rattle.wire.specs.MessageRefusals.{isOf, isThis, wellEncoded, messageVerdic
 use Rattle.wire.specs.MessageSaid.{saidIn}
 use Rattle.wire.specs.MessageOutcome.{MessageOutcome, refused}
 use Rattle.wire.specs.declared.Message.{Message}
-use Rattle.wire.specs.declared.Message.the-variants.{CancelResponse, WriteReplaceResponse}
+use Rattle.wire.specs.declared.Message.the-variants.{CancelRequest, CancelResponse, WriteReplaceResponse}
 use Rattle.wire.proofs.FrameFormat.{frame-lawful}
-use Rattle.wire.specs.Messages.{frameId}
+use Rattle.wire.specs.Messages.{frameId, itemId}
 use Rattle.responses.specs.ResponseRead.{answering, responseRead}
 use Rattle.responses.proofs.ReadLaws.{leftBy, left-by}
 use Rattle.response_read.specs.Left.{meantBy}
@@ -35,6 +35,15 @@ unfolding meantBy gets be
 first-two x y z =
     let two : be (gets (x ∷ y ∷ z) 0 2) ≡ x * 256 + y = omega arith in
     rw (le-leb 2 (length (x ∷ y ∷ z)) (omega arith), two)
+
+-- the messages are told apart by their items' ids
+pub a-response : (b : List ℕ) → meantBy b ≡ CancelRequest → ⊥
+unfolding meantBy
+a-response b e = neither (leb 2 (length b) && eqb (be (gets b 0 2)) (frameId WriteReplaceResponse)) (ap itemId e)
+  where
+    neither : (t : Bool) → itemId (cond t WriteReplaceResponse CancelResponse) ≡ itemId CancelRequest → ⊥
+    neither true i = omega arith
+    neither false i = omega arith
 
 -- choice and procedure code; a choice-extension has an id of two bytes instead
 module _ (choice code : ℕ) where

@@ -10,6 +10,7 @@ ghost use Rattle.rules.specs.Layout.{current, answerSize, rowSize};
 ghost use Rattle.rules.specs.Answer.{rowBytes};
 ghost use Rattle.wire.specs.MessageOutcome.{takenBy};
 ghost use Rattle.wire_judge.specs.Account.{Lies, accountBy};
+ghost use Rattle.response_judge.specs.Met.{seenOf};
 ghost use Rattle.wire_cells.specs.Listed.{JudgedList, rowsListed};
 ghost use Rattle.responses.specs.ResponseRead.{kindAnswered, responseRead};
 ghost use Rattle.response_read.specs.Left.{meantBy, answerLeft};
@@ -17,6 +18,9 @@ use answer::length_with;
 use answer::put_head;
 use answer::put_row;
 use octets::get16;
+use response_judge::Judged;
+use response_judge::Met;
+use response_judge::judge;
 use rules::Refusal;
 use rules::Writing;
 use rules::kind::CANCEL_OR_KILL;
@@ -28,9 +32,6 @@ use wire::Taking;
 use wire::form::WRITE_REPLACE_RESPONSE;
 use wire_cells::cell_at;
 use wire_cells::cell_count;
-use wire_judge::Judged;
-use wire_judge::Seen;
-use wire_judge::judge;
 
 // ---- the answer
 
@@ -66,16 +67,16 @@ fn put_rows(m: Message, answer: &mut [u8], cells: &[u8])
 }
 
 // 17, then 8, or the answer at the start of the buffer; bytes behind it stay.
-fn put_answer(m: Message, elements: &[u8], seen: Seen, answer: &mut [u8]) -> Writing
-    requires { ⌜ Lies m (now elements) seen ⌝ }
-    requires { ⌜ seen .lacks ≡ false ⌝ }
-    ensures { λ r. ⌜ filledBy r (now (answer .exit)) ≡ answerLeft (kindAnswered m) (accountBy m (now (elements .entry)) seen .says .cells) (now (answer .entry)) ⌝ }
+fn put_answer(m: Message, elements: &[u8], met: Met, answer: &mut [u8]) -> Writing
+    requires { ⌜ Lies m (now elements) (seenOf met) ⌝ }
+    requires { ⌜ met .lacks ≡ false ⌝ }
+    ensures { λ r. ⌜ filledBy r (now (answer .exit)) ≡ answerLeft (kindAnswered m) (accountBy m (now (elements .entry)) (seenOf met) .says .cells) (now (answer .entry)) ⌝ }
 {
-    if !seen.ascends {
+    if !met.ascends {
         return Writing::Unwritten(Refusal::AnswerWrong);
     }
-    let start = seen.start;
-    let end = seen.end;
+    let start = met.start;
+    let end = met.end;
     let cells = &elements[start..end];
     let n = cell_count(m, cells);
     let size = length_with(n);
@@ -108,9 +109,9 @@ pub fn read_response(message: &[u8], answer: &mut [u8]) -> Taking
     let m = meant(message);
     match judge(m, message) {
         Judged::Unfit(refusal) => Taking::Untaken(refusal),
-        Judged::Fine(start, seen) => match put_answer(m, &message[start..], seen, answer) {
+        Judged::Fine(start, met) => match put_answer(m, &message[start..], met, answer) {
             Writing::Unwritten(refusal) => Taking::Untaken(refusal),
-            Writing::Written(length) => Taking::Taken(seen.transaction, length),
+            Writing::Written(length) => Taking::Taken(met.transaction as u16, length),
         },
     }
 }

@@ -1,8 +1,6 @@
 -- The promises of a PWS CANCEL REQUEST hold. What is skipped changes neither verdict nor what is said; a refusal's number is the law of tests in order, and
 -- what it leaves is computed; where 13 to 16 are passed, the reader's verdict is the writer's.
-use mathlib.Core.Path.{_≡_}
 use lib.ListN.{length}
-use Rattle.rules.specs.Refusals.{firstOf}
 use Rattle.rules.specs.Applied.{fill, written}
 use Rattle.rules.proofs.VerdictLaws.{first-append}
 use Rattle.rules.proofs.VerdictsHold.{first-exact}

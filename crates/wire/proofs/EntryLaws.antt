@@ -102,7 +102,9 @@ module _ (m : Message) where
       pub entry-no-value : (id ≡ itemId m → ⊥) → 3 ≤ criticality → EntryAt m l at NoEntry
       entry-no-value n h = absent (seen ∙ other-kept n false (le-ltb criticality 3 h))
 
-    pub entry-plain : Bytes l → PlainAt m l at → (end n : ℕ) → end ≡ at + (4 + plainSize m) → n ≡ be (gets l (at + 5) 8) / 16 → EntryAt m l at (Upto end false false n)
+    -- an item that was seen at once: its cell's number stands behind its head and its flags
+    pub entry-plain : Bytes l → PlainAt m l at → (end n : ℕ) → end ≡ at + (4 + plainSize m) → n ≡ be (gets l (at + 4 + 1) 8) / 16 → EntryAt m l at (Upto end false false n)
     entry-plain bytes p end n behind here =
-        rw (behind, here)
+        let fifth : at + 4 + 1 ≡ at + 5 = omega arith in
+        rw (behind, here, fifth)
         (entry-item (itemId m) (p .criticality) (at + 4) (at + (4 + plainSize m)) (p .read) refl false (be (gets l (at + 5) 8) / 16) (identity-small l (at + 5) bytes refl) (p .graded))

@@ -1,8 +1,8 @@
 -- The list of cells: where the walk over its entries starts, and what its end tells. What is gathered is told of the whole list.
 use mathlib.Core.Path.{_≡_, refl, sym, ap, _∙_}
 use mathlib.Core.Bool.{Bool, true, false, _&&_, _||_}
-use mathlib.Core.List.{List, [], _∷_, map}
-use Prim.Native.Nat.{ℕ, _+_, _*_, _<_, _≤_}
+use mathlib.Core.List.{List, [], _∷_}
+use Prim.Native.Nat.{ℕ, _+_, _-_, _*_, _/_, _%_, _<_, _≤_}
 use mir.Val.{boolByte}
 use native.Mathlib.Omega.{arith}
 use lib.ListN.{length, drop, drop-of-length-le}
@@ -10,20 +10,21 @@ use lib.Seq.{drop-cons}
 use borrow.Author.Tests.{lt-ltb, le-ltb, ltb-true, ltb-false, le-leb, lt-leb}
 use Rattle.octets.specs.Runs.{gets}
 use Rattle.octets.specs.Numbers.{be}
-use lib.Dec.{ltb, leb}
+use lib.Dec.{eqb, ltb, leb}
 use Rattle.rules.specs.Lists.{any, above, ascending}
 use Rattle.rules.proofs.TestLaws.{or-assoc, or-false, and-assoc, and-with-true, by-test}
 use Rattle.formats.specs.Summary.{summed, gathered}
 use Rattle.formats.specs.Format.{Found, nothing, found, after, allOf, behind, only, as-if, times}
 use Rattle.formats.proofs.ReadLaws.{number-cut, number-found}
-use Rattle.formats.proofs.WalkLaws.{Walking}
+use Rattle.formats.proofs.WalkLaws.{Walking, walk-breaks, walk-goes}
 use Rattle.aper.specs.Elements.{Element, fromOne}
 use Rattle.wire.specs.Cells.{Entry, entryElement, list}
 use Rattle.wire.specs.Messages.{theCells}
 use Rattle.wire.specs.MessageTree.{cells, contentsBy}
 use Rattle.wire.specs.MessageRefusals.{rejectsEntry, foreignEntry}
-use Rattle.wire.specs.Readers.{listHeard, kept, numberOfEntry, entryNumbers, marksOf, EntryAt, Tells}
+use Rattle.wire.specs.Readers.{listHeard, kept, numberOfEntry, entryNumbers, marksOf, entryBy, EntryAt, Tells, PlainList}
 use Rattle.wire.specs.declared.Message.{Message}
+use Rattle.wire.specs.declared.Listed.{Listed}
 use Rattle.wire.specs.declared.Listed.the-variants.{Upto, NoEntry}
 use Rattle.wire.specs.declared.Heard.{Heard}
 use Rattle.wire.specs.declared.Heard.the-variants.{Cells, Bad}
@@ -60,7 +61,7 @@ atFirst = (false, (false, (true, 0)))
 abbrev withMarks : Marks → Bool × (Bool × ℕ) → Marks
 withMarks s k = (s .0 || k .0, (s .1 .0 || k .1 .0, (s .1 .1 .0 && leb (s .1 .1 .1) (k .1 .1), k .1 .1 + 1)))
 
-abbrev pub withEntry : Marks → Element Entry → Marks
+abbrev withEntry : Marks → Element Entry → Marks
 withEntry s e = withMarks s (marksOf e)
 
 abbrev asCells : Marks → Heard
@@ -79,14 +80,6 @@ joined : (s : Marks) (x : Found (Element Entry)) → summed (withEntry s) x ≡ 
 joined s nothing = refl
 joined s (found e r) = refl
 
-module _ (m : Message) (s : Marks) (l : List ℕ) (at : ℕ) where
-  pub entry-broken : EntryAt m l at NoEntry → summed (withEntry s) (entryElement m .parse (drop at l)) ≡ nothing
-  entry-broken read = joined s (entryElement m .parse (drop at l)) ∙ ap (summed (withMarks s)) (sym (read .says))
-
-  pub entry-joined : (end : ℕ) (rejects foreign : Bool) (n : ℕ) → EntryAt m l at (Upto end rejects foreign n)
-      → summed (withEntry s) (entryElement m .parse (drop at l)) ≡ found (withMarks s (rejects, (foreign, n))) (drop end l)
-  entry-joined end rejects foreign n read = joined s (entryElement m .parse (drop at l)) ∙ ap (summed (withMarks s)) (sym (read .says))
-
 -- ---- what the list tells
 
 marks-told : (x : Found (List (Element Entry))) → allOf (summed kept (after x (λ es r. found (cells es) r))) [] ≡ summed asCells (allOf (summed (gathered withEntry atFirst) x) [])
@@ -98,6 +91,10 @@ marks-told (found es (b ∷ bs)) = refl
 module _ (m : Message) (l : List ℕ) where
   abbrev pub ListGoal : Found Marks
   ListGoal = summed (gathered withEntry atFirst) (list m .parse l)
+
+  -- so many entries are left, from an index on, and these marks were gathered of those before
+  abbrev pub ListWalk : ℕ → ℕ → Marks → Type 0
+  ListWalk left at s = Walking (entryElement m) withEntry ListGoal l left at s
 
   tells : (r : Found Marks) → ListGoal ≡ r → allOf (summed kept (contentsBy m theCells .parse l)) [] ≡ summed asCells (allOf r [])
   unfolding contentsBy as-if
@@ -115,9 +112,19 @@ module _ (m : Message) (l : List ℕ) where
     unfolding list behind fromOne as-if only
     list-many h = rw (number-found l 0 2 2 refl long, ← here, le-ltb n 512 h)
 
-    pub list-start : n < 512 → Walking (entryElement m) withEntry ListGoal l (n + 1) 2 atFirst
+    pub list-start : n < 512 → ListWalk (n + 1) 2 atFirst
     unfolding list behind fromOne as-if only times
     list-start h = record { within = long; comes = rw (number-found l 0 2 2 refl long, ← here, lt-ltb n 512 h) }
+
+  module _ {left at : ℕ} {s : Marks} (w : ListWalk left at s) (some : 0 < left) where
+    next : (r : Listed) → EntryAt m l at r → summed (withEntry s) (entryElement m .parse (drop at l)) ≡ summed (withMarks s) (entryBy l r)
+    next r read = joined s (entryElement m .parse (drop at l)) ∙ ap (summed (withMarks s)) (sym (read .says))
+
+    pub list-breaks : EntryAt m l at NoEntry → Tells (contentsBy m theCells) l Bad
+    list-breaks read = list-none (walk-breaks w some (next NoEntry read))
+
+    pub list-goes : (end : ℕ) (rejects foreign : Bool) (n : ℕ) → EntryAt m l at (Upto end rejects foreign n) → ListWalk (left - 1) end (withMarks s (rejects, (foreign, n)))
+    list-goes end rejects foreign n read = walk-goes w some (withMarks s (rejects, (foreign, n))) end (next (Upto end rejects foreign n) read) (read .lies .0)
 
   module _ (s : Marks) (at : ℕ) (e : ListGoal ≡ found s (drop at l)) where
     pub list-behind : at ≤ length l → (at ≡ length l → ⊥) → Tells (contentsBy m theCells) l Bad
@@ -144,3 +151,20 @@ number-told false false false = refl
 pub list-told : (m : Message) (l : List ℕ) (r f a : Bool) (least at : ℕ) → ListGoal m l ≡ found (r, (f, (a, least))) (drop at l) → at ≡ length l
     → Tells (contentsBy m theCells) l (listHeard (boolByte r * 4 + boolByte f * 2 + boolByte a))
 list-told m l r f a least at e h = rw (number-told r f a) (list-fine m l (r, (f, (a, least))) at e h)
+
+-- ---- a list of items without extensions: none is marked reject, and each is a cell's
+
+pub plain-unsaid : (m : Message) (l : List ℕ) → PlainList m l 8
+plain-unsaid m l few = absurd (omega (arith, few))
+
+pub plain-told : (m : Message) (l : List ℕ) (a : Bool) (least at : ℕ) → ListGoal m l ≡ found (false, (false, (a, least))) (drop at l) → at ≡ length l → PlainList m l (boolByte a)
+plain-told m l true least at e h few = list-fine m l (false, (false, (true, least))) at e h
+plain-told m l false least at e h few = list-fine m l (false, (false, (false, least))) at e h
+
+-- as the number of any list
+pub plain-heard : (n : ℕ) → n < 2 → listHeard n ≡ Cells false false (eqb n 1)
+plain-heard n few =
+    let a : n / 4 % 2 ≡ 0 = omega arith in
+    let b : n / 2 % 2 ≡ 0 = omega arith in
+    let c : n % 2 ≡ n = omega arith in
+    rw (lt-ltb n 8 (omega arith), a, b, c)

@@ -3,7 +3,7 @@ use mathlib.Core.Path.{_≡_}
 use mathlib.Core.Bool.{Bool, true, false, cond}
 use lib.Dec.{eqb, ltb}
 use mathlib.Core.List.{List, [], _∷_, map}
-use Prim.Native.Nat.{ℕ, _+_, _-_, _/_, _%_, _<_, _≤_}
+use Prim.Native.Nat.{ℕ, _+_, _-_, _*_, _/_, _%_, _<_, _≤_}
 use lib.ListN.{length, take, drop}
 use Rattle.octets.specs.Runs.{gets}
 use Rattle.octets.specs.Numbers.{be}
@@ -16,9 +16,9 @@ use Rattle.formats.specs.Bits.{bits}
 use Rattle.aper.specs.Elements.{Element, marked}
 use Rattle.aper.specs.Readers.{ElementAt}
 use Rattle.aper.specs.declared.Step.the-variants.{One}
-use Rattle.wire.specs.Messages.{itemId, countSize}
+use Rattle.wire.specs.Messages.{theCells, itemId, countSize}
 use Rattle.wire.specs.Cells.{Item, item, Entry, listed, foreign, entryElement}
-use Rattle.wire.specs.MessageTree.{noteFields, Contents, transaction, requested, cells, cancelAll, notification, other}
+use Rattle.wire.specs.MessageTree.{noteFields, Contents, contentsBy, transaction, requested, cells, cancelAll, notification, other}
 use Rattle.wire.specs.MessageRefusals.{rejectingItem, rejectsEntry, foreignEntry}
 use Rattle.wire.specs.declared.Message.{Message}
 use Rattle.wire.specs.declared.Grade.{Grade}
@@ -69,6 +69,10 @@ pub record PlainAt (m : Message) (l : List ℕ) (at : ℕ) : Type 0 where
   pub read : ElementAt l at (One (itemId m) criticality (at + 4) (at + (4 + plainSize m)))
   pub graded : ItemGraded m (take (at + (4 + plainSize m) - (at + 4)) (drop (at + 4) l)) (Fine false (be (gets l (at + 5) 8) / 16))
 
+-- its id and its length, without its criticality
+abbrev pub plainHead : Message → ℕ
+plainHead m = itemId m * 65536 + plainSize m
+
 abbrev pub PlainItem : Message → List ℕ → ℕ → Bool → Type 0
 PlainItem m l at true = PlainAt m l at
 PlainItem m l at false = Unit {0}
@@ -111,6 +115,10 @@ kept (other s) = Unknown
 abbrev pub listHeard : ℕ → Heard
 listHeard n = cond (ltb n 8) (Cells (eqb (n / 4 % 2) 1) (eqb (n / 2 % 2) 1) (eqb (n % 2) 1)) Bad
 
+-- what a transaction identifier tells as one number: 256 where it is none
+abbrev pub transactionHeard : ℕ → Heard
+transactionHeard n = cond (ltb n 256) (Transaction n) Bad
+
 abbrev pub heardBy : Heard → Found Heard
 heardBy (Transaction t) = found (Transaction t) []
 heardBy (Requested n) = found (Requested n) []
@@ -122,3 +130,7 @@ heardBy Bad = nothing
 
 abbrev pub Tells : Format Contents → List ℕ → Heard → Type 0
 Tells f l r = heardBy r ≡ allOf (summed kept (f .parse l)) []
+
+-- a list of items without extensions alone: 1 where its cells ascend, 0 where they do not; of any other list nothing is said
+abbrev pub PlainList : Message → List ℕ → ℕ → Type 0
+PlainList m l r = r < 2 → Tells (contentsBy m theCells) l (Cells false false (eqb r 1))

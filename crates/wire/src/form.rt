@@ -7,6 +7,20 @@ pub const CANCEL_RESPONSE: u16 = 0x4015;
 
 pub const WRITE_REPLACE_RESPONSE: u16 = 0x4014;
 
+// The element that each begins with. Up to its end a message has FRONT bytes behind its frame: the extension bit in a byte, the number of elements in two, then
+// id, criticality, length, a byte 0 and the number.
+pub const TRANSACTION: u16 = 78;
+
+pub const ELEMENTS_AT: usize = 1;
+
+pub const FIRST_AT: usize = 3;
+
+pub const BLANK_AT: usize = 7;
+
+pub const NUMBER_AT: usize = 8;
+
+pub const FRONT: usize = 9;
+
 // The list of each, and its items.
 pub const TO_BE_CANCELLED: u16 = 148;
 

@@ -1,23 +1,24 @@
 // PWS CANCEL REQUEST and the two responses (document 02, 5/13 and 6/13): as trees and formats, their refusals and what they say in specs/; here what each
 // element tells. Contents are lent: each reader takes all of its bytes, and nothing else.
 pub mod form;
-mod list;
+pub mod list;
 
 ghost use mathlib.Core.Path.{_≡_};
 ghost use Prim.Native.Nat.{_+_, _/_, _≤_};
 ghost use lib.ListN.{length};
 ghost use Rattle.octets.specs.Runs.{gets};
 ghost use Rattle.octets.specs.Numbers.{be};
-ghost use Rattle.wire.specs.Messages.{Name, theTransaction, theRequested, theIndicator, theNotification, cellsId, besideName, furtherName};
+ghost use Rattle.wire.specs.Messages.{theTransaction, theRequested, theIndicator, theNotification, cellsId, besideName, furtherName};
 ghost use Rattle.wire.specs.declared.Message.the-variants.{CancelRequest};
 ghost use Rattle.wire.specs.MessageTree.{contents, contentsBy};
-ghost use Rattle.wire.specs.Readers.{NoteAt, Tells};
+ghost use Rattle.wire.specs.Readers.{NoteAt, Tells, transactionHeard};
 use crate::form::CANCELLED;
 use crate::form::COMPLETED;
 use crate::form::PADDING;
 use crate::form::TO_BE_CANCELLED;
+use crate::form::TRANSACTION;
 use crate::list::heard;
-use crate::list::told;
+use crate::list::list_told;
 use aper::Run;
 use aper::given_at;
 use octets::get8;
@@ -38,14 +39,15 @@ pub enum Taking {
     Untaken(Refusal),
 }
 
-// The known elements' ids; that of the list is the message's own.
-const TRANSACTION: u16 = 78;
-
+// The known elements' ids, but for the transaction identifier, which every message has; that of the list is the message's own.
 const REQUESTED: u16 = 142;
 
 const CANCEL_ALL: u16 = 157;
 
 const NOTIFICATION: u16 = 220;
+
+// A number that is no transaction identifier's.
+pub const NO_TRANSACTION: u16 = 256;
 
 // What an element tells. Of the list: whether something in it is marked reject, whether an item is not a cell's, whether the cells ascend. Of a
 // notification: whether something in it is marked reject, the message identifier, the serial number.
@@ -85,16 +87,26 @@ pub fn identity_at(s: &[u8], at: usize) -> u64
     get64(s, at) / PADDING
 }
 
-fn transaction(part: &[u8]) -> Heard
-    ensures { λ r. ⌜ Tells (contentsBy CancelRequest theTransaction) (now (part .entry)) r ⌝ }
+// A transaction identifier as a number, NO_TRANSACTION where the bytes are none.
+pub fn transaction(part: &[u8]) -> u16
+    ensures { λ r. ⌜ Tells (contentsBy CancelRequest theTransaction) (now (part .entry)) (transactionHeard r) ⌝ }
 {
     if part.len() != 2 {
-        return Heard::Bad;
+        return NO_TRANSACTION;
     }
     if get8(part, 0) != 0 {
+        return NO_TRANSACTION;
+    }
+    get8(part, 1) as u16
+}
+
+fn transaction_heard(n: u16) -> Heard
+    ensures { λ r. ⌜ r ≡ transactionHeard n ⌝ }
+{
+    if NO_TRANSACTION <= n {
         return Heard::Bad;
     }
-    Heard::Transaction(get8(part, 1))
+    Heard::Transaction(n as u8)
 }
 
 fn requested(part: &[u8]) -> Heard
@@ -163,7 +175,7 @@ fn notification(part: &[u8]) -> Heard
 
 // ---- what tells the messages apart
 
-fn cells_id(m: Message) -> u16
+pub fn cells_id(m: Message) -> u16
     ensures { λ r. ⌜ r ≡ cellsId m ⌝ }
 {
     match m {
@@ -191,36 +203,23 @@ fn further(id: u16, part: &[u8]) -> Heard
     Heard::Unknown
 }
 
-// The list has two callers, so that its loop is a function of its own and not a part of the loop over all elements, which would leave it no registers.
+// What reads a list of any items has callers elsewhere too, so that its loop is a function of its own and not a part of the loop over all elements, which
+// would leave it no registers.
 fn in_request(id: u16, part: &[u8]) -> Heard
     ensures { λ r. ⌜ Tells (contentsBy CancelRequest (besideName CancelRequest id)) (now (part .entry)) r ⌝ }
 {
     if id == cells_id(Message::CancelRequest) {
-        return heard(told(Message::CancelRequest, part));
+        return heard(list_told(Message::CancelRequest, part));
     }
     further(id, part)
 }
 
-fn in_response(m: Message, id: u16, part: &[u8]) -> Heard
-    requires { ⌜ (m ≡ CancelRequest → ⊥) ⌝ }
-    ensures { λ r. ⌜ Tells (contentsBy m (besideName m id)) (now (part .entry)) r ⌝ }
-{
-    if id == cells_id(m) {
-        return heard(told(m, part));
-    }
-    Heard::Unknown
-}
-
-// What the element with this id tells; of an unknown one nothing is read.
-pub fn hear(m: Message, id: u16, part: &[u8]) -> Heard
-    ensures { λ r. ⌜ Tells (contents m id) (now (part .entry)) r ⌝ }
+// What the element of a cancel request with this id tells; of an unknown one nothing is read.
+pub fn hear(id: u16, part: &[u8]) -> Heard
+    ensures { λ r. ⌜ Tells (contents CancelRequest id) (now (part .entry)) r ⌝ }
 {
     if id == TRANSACTION {
-        return transaction(part);
+        return transaction_heard(transaction(part));
     }
-    match m {
-        Message::CancelRequest => in_request(id, part),
-        Message::CancelResponse => in_response(m, id, part),
-        Message::WriteReplaceResponse => in_response(m, id, part),
-    }
+    in_request(id, part)
 }

@@ -4,7 +4,7 @@ ghost use Prim.Native.Nat.{_≤_};
 ghost use lib.ListN.{length};
 ghost use Rattle.wire.specs.Messages.{theCells, itemId, countSize};
 ghost use Rattle.wire.specs.MessageTree.{contentsBy};
-ghost use Rattle.wire.specs.Readers.{ItemGraded, GradeLies, PlainItem, EntryAt, Tells, listHeard};
+ghost use Rattle.wire.specs.Readers.{ItemGraded, GradeLies, plainHead, PlainItem, PlainList, EntryAt, Tells, listHeard};
 use crate::Grade;
 use crate::Heard;
 use crate::Listed;
@@ -89,8 +89,16 @@ fn item_grade(m: Message, s: &[u8]) -> Grade
     }
 }
 
+// Id and length of an item without extensions, without its criticality.
+fn plain_head(m: Message) -> u32
+    ensures { λ r. ⌜ r ≡ plainHead m ⌝ }
+{
+    (item_id(m) as u32) * 65536 + ((IDENTITY_END + count_bytes(m)) as u32)
+}
+
 // An item as most are, without extensions: its id, its length and its padding are seen at once. Of anything else nothing is said.
-fn plain_item(m: Message, s: &[u8], at: usize) -> bool
+fn plain_item(m: Message, plain: u32, s: &[u8], at: usize) -> bool
+    requires { ⌜ plain ≡ plainHead m ⌝ }
     requires { ⌜ at ≤ length (now s) ⌝ }
     ensures { λ r. ⌜ PlainItem m (now (s .entry)) at r ⌝ }
 {
@@ -101,18 +109,16 @@ fn plain_item(m: Message, s: &[u8], at: usize) -> bool
     let head = get32(s, at);
     let flags = get8(s, at + LISTED_HEAD);
     let last = get8(s, at + LAST_LISTED);
-    (head / 65536 == (item_id(m) as u32))
-        & (head % 16384 == (size as u32))
-        & (flags == 0)
-        & (last % 16 == 0)
+    (head / 65536 * 65536 + head % 16384 == plain) & (flags == 0) & (last % 16 == 0)
 }
 
 // The entry of the list at an index. An item's bytes are lent on; another element is not looked into, and is never skipped.
-fn entry_at(m: Message, s: &[u8], at: usize) -> Listed
+fn entry_at(m: Message, plain: u32, s: &[u8], at: usize) -> Listed
+    requires { ⌜ plain ≡ plainHead m ⌝ }
     requires { ⌜ at ≤ length (now s) ⌝ }
     ensures { λ r. ⌜ EntryAt m (now (s .entry)) at r ⌝ }
 {
-    if plain_item(m, s, at) {
+    if plain_item(m, plain, s, at) {
         return Listed::Upto(
             at + LISTED_HEAD + IDENTITY_END + count_bytes(m),
             false,
@@ -149,6 +155,7 @@ pub fn told(m: Message, s: &[u8]) -> u8
     if MOST_LISTED <= last {
         return NO_LIST;
     }
+    let plain = plain_head(m);
     let mut left = last + 1;
     let mut at: usize = 2;
     let mut rejected = false;
@@ -156,7 +163,7 @@ pub fn told(m: Message, s: &[u8]) -> u8
     let mut ascends = true;
     let mut least: u64 = 0;
     while 0 < left {
-        match entry_at(m, s, at) {
+        match entry_at(m, plain, s, at) {
             Listed::NoEntry => return NO_LIST,
             Listed::Upto(end, rejects, is_foreign, identity) => {
                 rejected = rejected | rejects;
@@ -172,6 +179,50 @@ pub fn told(m: Message, s: &[u8]) -> u8
         return NO_LIST;
     }
     (rejected as u8) * 4 + (foreign as u8) * 2 + (ascends as u8)
+}
+
+// A list of items without extensions alone, as most are: 1 where its cells ascend, 0 where they do not. Of any other nothing is said.
+pub fn plain_list(m: Message, s: &[u8]) -> u8
+    ensures { λ r. ⌜ PlainList m (now (s .entry)) r ⌝ }
+{
+    if s.len() < 2 {
+        return NO_LIST;
+    }
+    let last = get16(s, 0) as usize;
+    if MOST_LISTED <= last {
+        return NO_LIST;
+    }
+    let plain = plain_head(m);
+    let size = LISTED_HEAD + IDENTITY_END + count_bytes(m);
+    let mut left = last + 1;
+    let mut at: usize = 2;
+    let mut ascends = true;
+    let mut least: u64 = 0;
+    while 0 < left {
+        if !plain_item(m, plain, s, at) {
+            return NO_LIST;
+        }
+        let identity = identity_at(s, at + LISTED_HEAD + IDENTITY_AT);
+        ascends = ascends & (least <= identity);
+        least = identity + 1;
+        at += size;
+        left -= 1;
+    }
+    if at != s.len() {
+        return NO_LIST;
+    }
+    ascends as u8
+}
+
+// What the list tells, as one number; most are seen to be plain.
+pub fn list_told(m: Message, s: &[u8]) -> u8
+    ensures { λ r. ⌜ Tells (contentsBy m theCells) (now (s .entry)) (listHeard r) ⌝ }
+{
+    let plain = plain_list(m, s);
+    if plain < 2 {
+        return plain;
+    }
+    told(m, s)
 }
 
 pub fn heard(told: u8) -> Heard

@@ -1,16 +1,17 @@
 -- The record of what a message says: which list lies in its bytes, which request it makes, and what is written for it, by the two tests.
-use mathlib.Core.Path.{_≡_, refl, _∙_}
+use mathlib.Core.Path.{_≡_, refl, ap}
 use mathlib.Core.Bool.{Bool, true, false, not, _&&_, _||_}
 use mathlib.Core.List.{List, [], _∷_, flatMap}
 use Prim.Native.Nat.{ℕ, _+_, _-_, _*_, _/_, _%_, _<_, _≤_}
 use native.Mathlib.Omega.{arith}
 use lib.Dec.{eqb}
-use lib.ListN.{length, take, drop, length-drop}
-use lib.Seq.{sets, length-take-le}
+use lib.ListN.{length}
+use lib.Seq.{sets}
 use borrow.Author.Tests.{le-leb, lt-leb, ne-eqb}
 use Rattle.octets.specs.Numbers.{toBe}
 use Rattle.octets.specs.Fields.{bytesOf}
 use Rattle.rules.specs.Layout.{current, recordFields, recordSize, itemSize}
+use Rattle.rules.specs.Reply.{identities}
 use Rattle.rules.specs.Record.{cancelOrKill, cancelsNothing, requestNumbers}
 use Rattle.rules.specs.Refusals.{cancelsSome}
 use Rattle.rules.specs.Applied.{fill, filledBy}
@@ -21,10 +22,10 @@ use Rattle.record_write.proofs.WriteLaws.{bytes-size, one-store}
 use Rattle.wire.specs.MessageSaid.{Said}
 use Rattle.wire.specs.declared.Message.the-variants.{CancelRequest}
 use Rattle.wire.specs.CancelRead.{named, flagsOf, areaNamed, cancelRequest, recordRoom, recordOf}
-use Rattle.wire_judge.specs.Account.{listAt, accountBy, Lies}
+use Rattle.wire_judge.specs.Account.{listAt, accountBy}
 use Rattle.wire_judge.specs.declared.Seen.{Seen}
-use Rattle.wire_cells.specs.Listed.{JudgedList, rowsListed}
-use Rattle.wire_cells.proofs.WholeListLaws.{lies-judged}
+use Rattle.wire_cells.specs.Listed.{rowsListed}
+use Rattle.wire_cells.proofs.WholeListLaws.{part, rows-said}
 use Rattle.wire_cancel.specs.Taken.{cellsListed, areaBy, requestBy, recorded}
 
 -- ---- what was seen
@@ -40,27 +41,19 @@ area-named [] = refl
 area-named (x ∷ xs) = rw (ne-eqb (length (x ∷ xs)) 0 (λ e. omega arith))
 
 module _ (l : List ℕ) (s : Seen) where
-  -- where its list lies
-  abbrev pub part : List ℕ
-  part = take (s .end - s .start) (drop (s .start) l)
-
   abbrev pub Says : Said
   Says = accountBy CancelRequest l s .says
 
-  pub cells-said : cellsListed part ≡ named Says
-  unfolding accountBy listAt rowsListed
-  cells-said = refl
+  pub cells-said : cellsListed (part CancelRequest l s) ≡ named Says
+  cells-said = ap identities (rows-said CancelRequest l s)
 
   pub some-said : cancelsSome (cancelRequest Says) ≡ (s .all || s .noted)
   unfolding cancelsNothing cancelRequest accountBy
   some-said = flags-some (s .all) (s .noted)
 
-  pub request-said : {n : ℕ} → n ≡ length (cellsListed part) → requestBy s n ≡ cancelRequest Says
+  pub request-said : {n : ℕ} → n ≡ length (cellsListed (part CancelRequest l s)) → requestBy s n ≡ cancelRequest Says
   unfolding requestBy cancelRequest accountBy listAt rowsListed
-  request-said e = rw (e, area-named (cellsListed part))
-
-  pub part-whole : Lies CancelRequest l s → s .lacks ≡ false → JudgedList CancelRequest part
-  part-whole lies own = lies-judged CancelRequest l s lies own
+  request-said e = rw (e, area-named (cellsListed (part CancelRequest l s)))
 
 -- ---- what is written
 

@@ -7,7 +7,7 @@ use Rattle.rules.specs.Refusals.{_then_, firstOf}
 use Rattle.rules.specs.Applied.{fill, filledBy}
 use Rattle.rules.specs.declared.Refusal.{Refusal}
 use Rattle.rules.specs.declared.Verdict.{Verdict}
-use Rattle.rules.specs.declared.Verdict.the-variants.{Accepted, Refused}
+use Rattle.rules.specs.declared.Verdict.the-variants.{Refused}
 use Rattle.rules.specs.declared.Writing.{Writing}
 use Rattle.rules.proofs.VerdictLaws.{first-append}
 use Rattle.wire.specs.MessageRefusals.{messageTests, messageVerdict}

@@ -119,7 +119,7 @@ fn put_record(elements: &[u8], seen: Seen, buffer: &mut [u8]) -> Writing
 pub fn read_cancel(message: &[u8], buffer: &mut [u8]) -> Taking
     ensures { λ r. ⌜ takenBy r (now (buffer .exit)) ≡ cancelRead (now (message .entry)) (now (buffer .entry)) ⌝ }
 {
-    match judge(Message::CancelRequest, message) {
+    match judge(message) {
         Judged::Unfit(refusal) => Taking::Untaken(refusal),
         Judged::Fine(start, seen) => match put_record(&message[start..], seen, buffer) {
             Writing::Unwritten(refusal) => Taking::Untaken(refusal),

@@ -15,7 +15,6 @@ use Rattle.aper.specs.declared.Run.the-variants.{Upto, NoRun}
 use Rattle.wire.specs.Messages.{countSize}
 use Rattle.wire.specs.Cells.{Item, itemUnder, item}
 use Rattle.wire.specs.declared.Message.{Message}
-use Rattle.wire.specs.declared.Message.the-variants.{CancelRequest, CancelResponse, WriteReplaceResponse}
 use Rattle.wire.proofs.CellsFormat.{item-lawful}
 use Rattle.wire_cells.specs.Listed.{WholeItem}
 use Rattle.wire_cells.proofs.CellLaws.{item-long, count-there, count-within, item-count}

@@ -19,7 +19,7 @@ use Rattle.aper.specs.Elements.{Element, fromOne}
 use Rattle.wire.specs.Cells.{Entry, listed, foreign, entryElement, list}
 use Rattle.wire.specs.MessageRefusals.{isForeign, foreignEntry}
 use Rattle.wire.specs.MessageSaid.{rowIn, rowsIn}
-use Rattle.wire_judge.specs.Account.{entriesIn, listAt, WholeList, Lies}
+use Rattle.wire_judge.specs.Account.{entriesIn, listAt, accountBy, WholeList, Lies}
 use Rattle.wire_judge.specs.declared.Seen.{Seen}
 use Rattle.wire.specs.declared.Message.{Message}
 use Rattle.wire_cells.specs.Listed.{JudgedList, rowsListed, CellsCounted}
@@ -103,16 +103,21 @@ module _ (m : Message) (l : List ℕ) where
 -- ---- in a message
 
 -- the list of what was seen, in its own bytes
-pub lies-judged : (m : Message) (l : List ℕ) (s : Seen) → Lies m l s → s .lacks ≡ false → JudgedList m (take (s .end - s .start) (drop (s .start) l))
-lies-judged m l s lies own = record { ascends = s .ascends; whole = unfold listAt in of (list m .parse part) (lies .list) }
-  where
-    part : List ℕ
-    part = take (s .end - s .start) (drop (s .start) l)
+module _ (m : Message) (l : List ℕ) (s : Seen) where
+  abbrev pub part : List ℕ
+  part = take (s .end - s .start) (drop (s .start) l)
 
-    of : (x : Found (List (Element Entry))) → WholeList (s .end) (s .lacks) (s .ascends) x → WholeList (length part) false (s .ascends) x
-    of nothing e =
-        let inside : s .end - s .start ≤ length (drop (s .start) l) = rw length-drop (omega (arith, lies .ends)) in
-        let none : length part ≡ 0 = length-take-le (s .end - s .start) (drop (s .start) l) inside ∙ omega (arith, e .0) in
-        (none, e .1)
-    of (found es []) whole = λ _. whole own
-    of (found es (b ∷ bs)) whole = whole
+  pub rows-said : rowsListed m part ≡ accountBy m l s .says .cells
+  unfolding accountBy listAt rowsListed
+  rows-said = refl
+
+  pub part-judged : Lies m l s → s .lacks ≡ false → JudgedList m part
+  part-judged lies own = record { ascends = s .ascends; whole = unfold listAt in of (list m .parse part) (lies .list) }
+    where
+      of : (x : Found (List (Element Entry))) → WholeList (s .end) (s .lacks) (s .ascends) x → WholeList (length part) false (s .ascends) x
+      of nothing e =
+          let inside : s .end - s .start ≤ length (drop (s .start) l) = rw length-drop (omega (arith, lies .ends)) in
+          let none : length part ≡ 0 = length-take-le (s .end - s .start) (drop (s .start) l) inside ∙ omega (arith, e .0) in
+          (none, e .1)
+      of (found es []) whole = λ _. whole own
+      of (found es (b ∷ bs)) whole = whole

@@ -93,7 +93,7 @@ pub record AccountOf (m : Message) (es : Elements) (a : Account) : Type 0 where
   pub says : a .says ≡ said es
 
 -- those that must be among the ids
-has-all : (m : Message) (ids : List ℕ) → hasAll m (oneOf transactionId ids) (oneOf requestedId ids) ≡ every (λ id. oneOf id ids) (mandatory m)
+pub has-all : (m : Message) (ids : List ℕ) → hasAll m (oneOf transactionId ids) (oneOf requestedId ids) ≡ every (λ id. oneOf id ids) (mandatory m)
 unfolding every
 has-all CancelRequest ids = rw (and-with-true (oneOf requestedId ids))
 has-all CancelResponse ids = sym (and-with-true (oneOf transactionId ids))

@@ -8,23 +8,25 @@ use native.Mathlib.Omega.{arith}
 use lib.Dec.{eqb, ltb}
 use lib.ListN.{length, take, drop, drop-of-length-le, length-drop}
 use lib.Seq.{drop-cons, take-all}
-use borrow.Author.Tests.{lt-ltb, le-ltb, ltb-true, ltb-false, eq-eqb, ne-eqb, eqb-true}
+use borrow.Author.Tests.{lt-ltb, le-ltb, ltb-true, ltb-false, eq-eqb, ne-eqb, eqb-true, eqb-false}
 use Rattle.octets.specs.Runs.{gets, Bytes}
 use Rattle.octets.specs.Numbers.{be}
 use Rattle.octets.proofs.NumbersLaws.{be-run, be-gets-lt}
-use Rattle.rules.proofs.TestLaws.{by-test}
+use Rattle.rules.proofs.TestLaws.{both, by-test, and-with-true}
 use Rattle.formats.specs.Format.{Found, nothing, found, after, allOf, number, opaque, pair, behind, only, as-if, inside}
 use Rattle.formats.specs.Summary.{summed}
 use Rattle.formats.proofs.SummaryLaws.{nothing-found, found-value}
 use Rattle.formats.proofs.ReadLaws.{number-cut, number-found}
 use Rattle.aper.specs.Elements.{openType, Element, twoBits, head, under, holding, plain}
 use Rattle.aper.specs.Readers.{ElementAt}
+use Rattle.aper.specs.declared.Step.{Step}
 use Rattle.aper.specs.declared.Step.the-variants.{One, NoElement}
+use Rattle.aper.proofs.Once.{element-settled}
 use Rattle.wire.specs.Messages.{choiceOf, codeOf, frameId}
 use Rattle.wire.specs.Frame.{Frame, codeSize, frameCriticality, frameUnder, frame, outer}
 use Rattle.wire.specs.declared.Message.{Message}
 use Rattle.wire.specs.declared.Message.the-variants.{CancelRequest, CancelResponse, WriteReplaceResponse}
-use Rattle.wire_judge.specs.Readers.{ours, FramedAs}
+use Rattle.wire_judge.specs.Readers.{isOwn, NotOwn, ours, FramedAs}
 use Rattle.wire_judge.specs.declared.Framed.the-variants.{This, Another, NoFrame}
 
 -- ---- behind an id: a criticality and an open type
@@ -113,7 +115,7 @@ module _ (m : Message) (l : List ℕ) (at choice code : ℕ) (framed : outer .pa
             let rest : length (drop start l) ≤ end - start = rw length-drop (omega arith) in
             there ∙ rw (drop-of-length-le l all, take-all (end - start) (drop start l) rest)
 
-        pub frame-ours : choice ≡ choiceOf m → code ≡ codeOf m → FramedAs m l (This start)
+        frame-ours : choice ≡ choiceOf m → code ≡ codeOf m → FramedAs m l (This start)
         frame-ours p q =
             record {
               says = rw (eq-eqb choice (choiceOf m) p, eq-eqb code (codeOf m) q) at (answers (found (frameBy choice code criticality (drop start l)) []) whole);
@@ -219,20 +221,49 @@ id-parts CancelRequest b code p h e = (omega arith, omega arith)
 id-parts CancelResponse b code p h e = (omega arith, omega arith)
 id-parts WriteReplaceResponse b code p h e = (omega arith, omega arith)
 
+-- the choice in it has its padding, and is no choice-extension
+id-padded : (m : Message) (b code : ℕ) → code < 256 → b * 256 + code ≡ frameId m → (b % 64 ≡ 0) × (b ≡ 192 → ⊥)
+id-padded CancelRequest b code h e = (omega arith, λ k. omega arith)
+id-padded CancelResponse b code h e = (omega arith, λ k. omega arith)
+id-padded WriteReplaceResponse b code h e = (omega arith, λ k. omega arith)
+
 parts-id : (m : Message) (b code : ℕ) → b % 64 ≡ 0 → b / 64 ≡ choiceOf m → code ≡ codeOf m → b * 256 + code ≡ frameId m
 parts-id m b code p q r = omega arith
 
-module _ (m : Message) (l : List ℕ) (bytes : Bytes l) (b id criticality start end : ℕ) (some : 1 ≤ length l) (here : b ≡ be (gets l 0 1)) (padded : b % 64 ≡ 0) (read : ElementAt l 0 (One id criticality start end)) where
+module _ (m : Message) (l : List ℕ) (bytes : Bytes l) (b id criticality start end : ℕ) (some : 1 ≤ length l) (here : b ≡ be (gets l 0 1)) (read : ElementAt l 0 (One id criticality start end)) where
   two : id ≡ b * 256 + be (gets l 1 1)
   two =
       let all : be (gets l 0 1) * 256 + be (gets l 1 1) ≡ be (gets l 0 2) = be-run 1 1 l 0 1 refl in
       omega (arith, element-id l 0 id criticality start end (omega arith) read, all)
 
-  pub choice-code : id ≡ frameId m → (b / 64 ≡ choiceOf m) × (be (gets l 1 1) ≡ codeOf m)
-  choice-code e = id-parts m b (be (gets l 1 1)) padded (be-gets-lt 1 1 l bytes) (sym two ∙ e)
+  -- a message's own id is enough for its own frame
+  pub frame-id-ours : id ≡ frameId m → criticality < 3 → end ≡ length l → FramedAs m l (This start)
+  frame-id-ours e small ends =
+      let code : ℕ = be (gets l 1 1) in
+      let less : code < 256 = be-gets-lt 1 1 l bytes in
+      let padded = id-padded m b code less (sym two ∙ e) in
+      let parts = id-parts m b code (padded .0) less (sym two ∙ e) in
+      frame-ours m l 0 (b / 64) code (framing-plain l b some here (padded .0) (padded .1)) id criticality start end read small ends (parts .0) (parts .1)
 
-  pub other-code : (id ≡ frameId m → ⊥) → (eqb (b / 64) (choiceOf m) && eqb (be (gets l 1 1)) (codeOf m)) ≡ false
-  other-code other =
+  other-code : b % 64 ≡ 0 → (id ≡ frameId m → ⊥) → (eqb (b / 64) (choiceOf m) && eqb (be (gets l 1 1)) (codeOf m)) ≡ false
+  other-code padded other =
       by-test (eqb (b / 64) (choiceOf m))
       (λ t. rw t (ne-eqb (be (gets l 1 1)) (codeOf m) (λ e. other (two ∙ parts-id m b (be (gets l 1 1)) padded (eqb-true (b / 64) (choiceOf m) t) e))))
       (λ t. rw t)
+
+  pub other-own : b % 64 ≡ 0 → NotOwn m l → criticality < 3 → end ≡ length l → (eqb (b / 64) (choiceOf m) && eqb (be (gets l 1 1)) (codeOf m)) ≡ false
+  other-own padded not-own small ends =
+      let test = rw (lt-ltb criticality 3 small, eq-eqb end (length l) ends, and-with-true (eqb id (frameId m)), and-with-true (eqb id (frameId m))) at (not-own (One id criticality start end) read) in
+      other-code padded (eqb-false id (frameId m) test)
+
+-- the same by one test, as code has it
+pub frame-own : (m : Message) (l : List ℕ) → Bytes l → (id criticality start end : ℕ) → ElementAt l 0 (One id criticality start end) → (own : ℕ) → own ≡ frameId m
+    → ((eqb id own && ltb criticality 3) && eqb end (length l)) ≡ true → FramedAs m l (This start)
+frame-own m l bytes id criticality start end read own is t =
+    let all = both (eqb id own && ltb criticality 3) (eqb end (length l)) t in
+    let front = both (eqb id own) (ltb criticality 3) (all .0) in
+    let some : 1 ≤ length l = omega (arith, read .lies .0, read .lies .1) in
+    frame-id-ours m l bytes (be (gets l 0 1)) id criticality start end some refl read (eqb-true id own (front .0) ∙ is) (ltb-true criticality 3 (front .1)) (eqb-true end (length l) (all .1))
+
+pub frame-not-own : (m : Message) (l : List ℕ) (x : Step) → ElementAt l 0 x → isOwn m (length l) x ≡ false → NotOwn m l
+frame-not-own m l x read t y also = ap (isOwn m (length l)) (element-settled l 0 y x also read) ∙ t

@@ -11,7 +11,11 @@ use Rattle.rules.specs.declared.Verdict.the-variants.{Accepted, Refused}
 use Rattle.formats.specs.Format.{Found, nothing, found, allOf}
 use Rattle.formats.specs.Summary.{summed, gathered}
 use Rattle.aper.specs.Elements.{reject, criticalities}
+use Rattle.aper.specs.Readers.{ElementAt}
+use Rattle.aper.specs.declared.Step.{Step}
+use Rattle.aper.specs.declared.Step.the-variants.{One, NoElement}
 use Rattle.wire.specs.Frame.{Frame, outer}
+use Rattle.wire.specs.Messages.{frameId}
 use Rattle.wire.specs.MessageTree.{element, value}
 use Rattle.wire.specs.MessageRefusals.{isOf, messageVerdict}
 use Rattle.wire.specs.MessageSaid.{saidIn}
@@ -34,6 +38,14 @@ use Rattle.wire_judge.specs.declared.Judged.the-variants.{Fine, Unfit}
 
 abbrev pub Extended : List ℕ → Type 0
 Extended l = be (gets l 0 1) ≡ 192
+
+-- an element at the front that is the message's own frame, of all bytes
+abbrev pub isOwn : Message → (size : ℕ) → Step → Bool
+isOwn m size (One id criticality start end) = (eqb id (frameId m) && ltb criticality criticalities) && eqb end size
+isOwn m size NoElement = false
+
+abbrev pub NotOwn : Message → List ℕ → Type 0
+NotOwn m l = (x : Step) → ElementAt l 0 x → isOwn m (length l) x ≡ false
 
 abbrev pub ours : Message → Frame (List ℕ) → List (List ℕ)
 ours m f = cond (isOf m f) (f .value ∷ []) []

@@ -3,7 +3,7 @@ ghost use mathlib.Core.Path.{_≡_};
 ghost use Prim.Native.Nat.{_≤_};
 ghost use lib.ListN.{length};
 ghost use Rattle.wire.specs.Messages.{frameId};
-ghost use Rattle.wire_judge.specs.Readers.{Extended, FramedAs};
+ghost use Rattle.wire_judge.specs.Readers.{Extended, NotOwn, FramedAs};
 use crate::Framed;
 use aper::CRITICALITIES;
 use aper::Step;
@@ -48,7 +48,9 @@ fn extension_frame(m: Message, s: &[u8]) -> Framed
     }
 }
 
-pub fn frame(m: Message, s: &[u8]) -> Framed
+// Another message's frame, or none.
+fn other_frame(m: Message, s: &[u8]) -> Framed
+    requires { ⌜ NotOwn m (now s) ⌝ }
     ensures { λ r. ⌜ FramedAs m (now (s .entry)) r ⌝ }
 {
     if s.len() == 0 {
@@ -63,17 +65,29 @@ pub fn frame(m: Message, s: &[u8]) -> Framed
     }
     match element_at(s, 0) {
         Step::NoElement => Framed::NoFrame,
-        Step::One(id, criticality, start, end) => {
+        Step::One(_, criticality, _, end) => {
             if CRITICALITIES <= criticality {
                 return Framed::NoFrame;
             }
             if end != s.len() {
                 return Framed::NoFrame;
             }
-            if id == frame_id(m) {
+            Framed::Another
+        }
+    }
+}
+
+// The message's own frame is seen at once, and this much is compiled into each caller; anything else takes the closer look.
+pub fn frame(m: Message, s: &[u8]) -> Framed
+    ensures { λ r. ⌜ FramedAs m (now (s .entry)) r ⌝ }
+{
+    match element_at(s, 0) {
+        Step::NoElement => other_frame(m, s),
+        Step::One(id, criticality, start, end) => {
+            if (id == frame_id(m)) & (criticality < CRITICALITIES) & (end == s.len()) {
                 return Framed::This(start);
             }
-            Framed::Another
+            other_frame(m, s)
         }
     }
 }

@@ -1,12 +1,14 @@
-// Whether bytes are a certain message that can be taken (13 to 16): one pass over it judges it and remembers what it says and where its list of cells lies,
-// which may be anywhere among its elements.
-mod framing;
+// Whether bytes are a PWS CANCEL REQUEST that can be taken (13 to 16): one pass over it judges it and remembers what it says and where its list of cells
+// lies, which may be anywhere among its elements. Responses have a judge of their own, since one with two callers is made a call and cancels read slowly:
+// the frame, what was seen and all laws here are of any message, and serve both.
+pub mod framing;
 
 ghost use mathlib.Core.Path.{_≡_};
 ghost use Prim.Native.Nat.{_≤_};
 ghost use lib.ListN.{length};
+ghost use Rattle.wire.specs.declared.Message.the-variants.{CancelRequest};
 ghost use Rattle.wire_judge.specs.Account.{Lies};
-ghost use Rattle.wire_judge.specs.Readers.{nothingSeen, inTurn, pastOf, turnOf, TurnAt, WalkedOver, hasAll, JudgedAs};
+ghost use Rattle.wire_judge.specs.Readers.{nothingSeen, inTurn, pastOf, turnOf, TurnAt, WalkedOver, JudgedAs};
 use crate::framing::frame;
 use aper::CRITICALITIES;
 use aper::REJECT;
@@ -17,10 +19,12 @@ use octets::get16;
 use rules::Refusal;
 use wire::Heard;
 use wire::Message;
+use wire::form::ELEMENTS_AT;
+use wire::form::FIRST_AT;
 use wire::hear;
 
 // The frame around a message: where the one that is looked for begins, or that it is another message's.
-enum Framed {
+pub enum Framed {
     This(usize),
     Another,
     NoFrame,
@@ -48,13 +52,13 @@ pub struct Seen {
 }
 
 // One element more: what was seen with it, and where it ends.
-enum Turn {
+pub enum Turn {
     Next(Seen, usize),
     NoTurn,
 }
 
 // All elements.
-enum Walk {
+pub enum Walk {
     Whole(Seen),
     Broken,
 }
@@ -155,41 +159,34 @@ fn nothing_seen() -> Seen
 }
 
 // The element at an index, and what was seen with it.
-fn turn_at(m: Message, s: &[u8], at: usize, seen: Seen) -> Turn
+fn turn_at(s: &[u8], at: usize, seen: Seen) -> Turn
     requires { ⌜ at ≤ length (now s) ⌝ }
-    requires { ⌜ Lies m (now s) seen ⌝ }
-    ensures { λ r. ⌜ TurnAt m (now (s .entry)) at seen r ⌝ }
+    requires { ⌜ Lies CancelRequest (now s) seen ⌝ }
+    ensures { λ r. ⌜ TurnAt CancelRequest (now (s .entry)) at seen r ⌝ }
 {
     match element_at(s, at) {
         Step::NoElement => Turn::NoTurn,
         Step::One(id, criticality, start, end) => {
-            turn_of(
-                seen,
-                id,
-                criticality,
-                start,
-                end,
-                hear(m, id, &s[start..end]),
-            )
+            turn_of(seen, id, criticality, start, end, hear(id, &s[start..end]))
         }
     }
 }
 
 // The elements of a message behind its extension bit and their number, all of them and nothing else.
-fn elements(m: Message, s: &[u8]) -> Walk
-    ensures { λ r. ⌜ WalkedOver m (now (s .entry)) r ⌝ }
+fn elements(s: &[u8]) -> Walk
+    ensures { λ r. ⌜ WalkedOver CancelRequest (now (s .entry)) r ⌝ }
 {
-    if s.len() < 3 {
+    if s.len() < FIRST_AT {
         return Walk::Broken;
     }
     if get8(s, 0) != 0 {
         return Walk::Broken;
     }
-    let mut left = get16(s, 1) as usize;
-    let mut at: usize = 3;
+    let mut left = get16(s, ELEMENTS_AT) as usize;
+    let mut at = FIRST_AT;
     let mut seen = nothing_seen();
     while 0 < left {
-        match turn_at(m, s, at, seen) {
+        match turn_at(s, at, seen) {
             Turn::NoTurn => return Walk::Broken,
             Turn::Next(now, end) => {
                 seen = now;
@@ -206,30 +203,19 @@ fn elements(m: Message, s: &[u8]) -> Walk
 
 // ---- 13 to 16
 
-// Whether the mandatory elements are there.
-fn has_all(m: Message, seen: Seen) -> bool
-    ensures { λ r. ⌜ r ≡ hasAll m (seen .identified) (seen .counted) ⌝ }
+pub fn judge(message: &[u8]) -> Judged
+    ensures { λ r. ⌜ JudgedAs CancelRequest (now (message .entry)) r ⌝ }
 {
-    match m {
-        Message::CancelRequest => seen.identified & seen.counted,
-        Message::CancelResponse => seen.identified,
-        Message::WriteReplaceResponse => seen.identified,
-    }
-}
-
-pub fn judge(m: Message, message: &[u8]) -> Judged
-    ensures { λ r. ⌜ JudgedAs m (now (message .entry)) r ⌝ }
-{
-    match frame(m, message) {
+    match frame(Message::CancelRequest, message) {
         Framed::NoFrame => Judged::Unfit(Refusal::BadEncoding),
         Framed::Another => Judged::Unfit(Refusal::OtherMessage),
-        Framed::This(start) => match elements(m, &message[start..]) {
+        Framed::This(start) => match elements(&message[start..]) {
             Walk::Broken => Judged::Unfit(Refusal::BadEncoding),
             Walk::Whole(seen) => {
                 if seen.rejects {
                     return Judged::Unfit(Refusal::UnknownElement);
                 }
-                if seen.ordered & has_all(m, seen) & !seen.lacks {
+                if seen.ordered & seen.identified & seen.counted & !seen.lacks {
                     return Judged::Fine(start, seen);
                 }
                 Judged::Unfit(Refusal::ElementsWrong)

@@ -10,7 +10,9 @@ use borrow.Author.Tests.{not-true, not-false}
 use Rattle.rules.specs.Lists.{ascending}
 use Rattle.rules.specs.Reply.{Row, identities}
 use Rattle.responses.specs.ResponseRead.{kindAnswered}
-use Rattle.response_read.proofs.AnswerLeftLaws.{Cells, cells-said, part-judged, cells-ascend, unordered-put, short-put, answer-put}
+use Rattle.wire_cells.proofs.WholeListLaws.{rows-said, part-judged}
+use Rattle.response_judge.specs.Met.{seenOf}
+use Rattle.response_read.proofs.AnswerLeftLaws.{Cells, cells-ascend, unordered-put, short-put, answer-put}
 use borrow.Author.Needs.{needs}
 use Rattle.response_read.proofs.put_answer.Statement.{statement}
 use Rattle.response_read.proofs.put_answer.Tie as tie
@@ -38,21 +40,21 @@ abbrev sized : Stored → Sized
 sized c = c .before .before .before .before
 
 abbrev rows : Called → List Row
-rows c = Cells (c .args .m) (c .args .elements .now) (c .args .seen)
+rows c = Cells (c .args .m) (c .args .elements .now) (seenOf (c .args .met))
 
 -- cells that ascend
 order : (c : Counted) → ascending (identities (rows (called c))) ≡ true
 order c =
     let a = called c in
-    cells-ascend (a .args .m) (a .args .elements .now) (a .args .seen) (a .pre .0) (a .pre .1) ∙ not-false _ (c .before .before .if1 .left)
+    cells-ascend (a .args .m) (a .args .elements .now) (seenOf (a .args .met)) (a .pre .0) (a .pre .1) ∙ not-false _ (c .before .before .if1 .left)
 
 many : (c : Counted) → c .cell-count .result ≡ length (rows (called c))
-many c = let a = called c .args in rw (← cells-said (a .m) (a .elements .now) (a .seen)) (c .cell-count .ensures .counts)
+many c = let a = called c .args in rw (← rows-said (a .m) (a .elements .now) (seenOf (a .met))) (c .cell-count .ensures .counts)
 
 returns : tie.Need-returns
 returns c =
     let a : Called = c .before .before .before .before in
-    unordered-put _ _ _ (cells-ascend (a .args .m) (a .args .elements .now) (a .args .seen) (a .pre .0) (a .pre .1) ∙ not-true _ (c .if1 .taken))
+    unordered-put _ _ _ (cells-ascend (a .args .m) (a .args .elements .now) (seenOf (a .args .met)) (a .pre .0) (a .pre .1) ∙ not-true _ (c .if1 .taken))
 
 sub-cells : tie.Need-sub-cells
 sub-cells c = search needs
@@ -66,7 +68,7 @@ part-cells-end c = search needs
 cell-count-requires : tie.Need-cell-count-requires
 cell-count-requires c κs =
     let a : Called = c .before .before .before .before .before in
-    part-judged (a .args .m) (a .args .elements .now) (a .args .seen) (a .pre .0) (a .pre .1)
+    part-judged (a .args .m) (a .args .elements .now) (seenOf (a .args .met)) (a .pre .0) (a .pre .1)
 
 length-with-requires : tie.Need-length-with-requires
 length-with-requires c κs = search needs
@@ -92,7 +94,7 @@ put-rows-requires c κs =
     let s = sized stored in
     let n = counted s in
     let a = called n in (
-      part-judged (a .args .m) (a .args .elements .now) (a .args .seen) (a .pre .0) (a .pre .1),
+      part-judged (a .args .m) (a .args .elements .now) (seenOf (a .args .met)) (a .pre .0) (a .pre .1),
       rw (stored .put-head .ensures, length-sets, ← n .cell-count .ensures .counts) (omega (arith, s .length-with .ensures, stored .before .before .before .if2 .left)),
     )
 
@@ -107,7 +109,7 @@ returns-3 c =
     let a = called n .args in
     answer-put (kindAnswered (a .m)) (rows (called n)) (a .answer .now) (order n) (omega (arith, many n, s .length-with .ensures, stored .before .before .before .if2 .left))
     (stored .before .kind-answered .ensures) (many n) (s .length-with .ensures) (stored .put-head .ensures)
-    (rw (← cells-said (a .m) (a .elements .now) (a .seen)) (c .before .before .put-rows .ensures))
+    (rw (← rows-said (a .m) (a .elements .now) (seenOf (a .met))) (c .before .before .put-rows .ensures))
 
 pub put-answer-spec : {M : Type 1} → statement M
 put-answer-spec =

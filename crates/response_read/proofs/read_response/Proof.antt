@@ -1,8 +1,11 @@
 -- `read_response` leaves what the definition of reading says: a refused message leaves nothing, and of a fit one the answer decides (`fit-taken`).
+use mathlib.Core.Path.{sym, _∙_}
 use Rattle.octets.specs.Runs.{Bytes}
 use Rattle.rules.specs.declared.Writing.the-variants.{Written, Unwritten}
 use Rattle.wire_judge.specs.Readers.{FitMessage}
 use Rattle.wire_judge.proofs.LentLaws.{lent-lies}
+use Rattle.response_judge.specs.Met.{seenOf}
+use Rattle.response_read.proofs.MeantLaws.{a-response}
 use Rattle.response_read.proofs.ResponseTakenLaws.{not-taken, fit-taken}
 use borrow.Author.Needs.{needs}
 use Rattle.response_read.proofs.read_response.Statement.{statement}
@@ -33,14 +36,14 @@ found c = c .before .before .before .before
 bytes : (c : Meant) → Bytes (called c .args .message .now)
 bytes c = λ i. c .before .before .shared-slice-known .given i .fits
 
-fit : (c : Fit) → FitMessage (meant c .meant .result) (called (meant c) .args .message .now) (c .start .given .0 .0) (c .start .given .0 .1 .0)
+fit : (c : Fit) → FitMessage (meant c .meant .result) (called (meant c) .args .message .now) (c .start .given .0 .0) (seenOf (c .start .given .0 .1 .0))
 fit c = rw (c .start .given .1) at (c .before .before .judge .ensures)
 
 meant-requires : tie.Need-meant-requires
 meant-requires c κs = search needs
 
 judge-requires : tie.Need-judge-requires
-judge-requires c κs = search needs
+judge-requires c κs = λ e. a-response _ (sym (c .meant .ensures) ∙ e)
 
 enum-known-refusal : tie.Need-enum-known-refusal
 enum-known-refusal c = search needs
@@ -68,6 +71,9 @@ enum-known-refusal-2 c = search needs
 enum-known-length : tie.Need-enum-known-length
 enum-known-length c = search needs
 
+cast-t19 : tie.Need-cast-t19
+cast-t19 c = search needs
+
 returns : tie.Need-returns
 returns c =
     let judged = c .before .before .before in
@@ -88,9 +94,9 @@ same-length-2 c = search needs
 
 returns-3 : tie.Need-returns-3
 returns-3 c =
-    let put : Put = c .before .before .before .before .before in
+    let put : Put = c .before .before .before .before .before .before in
     let f = found put in
-    fit-taken _ _ (bytes (meant f)) (meant f .meant .ensures) _ _ (fit f) _ (Written (c .before .length .given .0 .0)) _ (rw (c .before .length .given .1) at (put .put-answer .ensures))
+    fit-taken _ _ (bytes (meant f)) (meant f .meant .ensures) _ _ (fit f) _ (Written (c .before .before .length .given .0 .0)) _ (rw (c .before .before .length .given .1) at (put .put-answer .ensures))
 
 pub read-response-spec : {M : Type 1} → statement M
 read-response-spec =
@@ -106,6 +112,7 @@ read-response-spec =
     put-answer-requires
     enum-known-refusal-2
     enum-known-length
+    cast-t19
     returns
     same-length
     returns-2

@@ -9,14 +9,14 @@ use Rattle.wire.proofs.in_request.Tie as tie
 cells-id-requires : tie.Need-cells-id-requires
 cells-id-requires c κs = search needs
 
-told-requires : tie.Need-told-requires
-told-requires c κs = search needs
+list-told-requires : tie.Need-list-told-requires
+list-told-requires c κs = search needs
 
 heard-requires : tie.Need-heard-requires
 heard-requires c κs = search needs
 
 returns : tie.Need-returns
-returns c = cells-tell CancelRequest _ _ (c .heard .result) (c .before .before .if1 .taken ∙ c .before .before .before .cells-id .ensures) (rw (c .heard .ensures) (c .before .told .ensures))
+returns c = cells-tell CancelRequest _ _ (c .heard .result) (c .before .before .if1 .taken ∙ c .before .before .before .cells-id .ensures) (rw (c .heard .ensures) (c .before .list-told .ensures))
 
 further-requires : tie.Need-further-requires
 further-requires c κs = search needs
@@ -26,4 +26,4 @@ returns-2 c = further-tells CancelRequest _ _ (c .further .result) (λ e. c .bef
 
 pub in-request-spec : {M : Type 1} → statement M
 in-request-spec =
-    tie.close (tie.spec cells-id-requires told-requires heard-requires returns further-requires returns-2)
+    tie.close (tie.spec cells-id-requires list-told-requires heard-requires returns further-requires returns-2)

@@ -10,7 +10,8 @@ use Rattle.wire.specs.CancelRead.{named, cancelRequest}
 use Rattle.wire.specs.declared.Message.the-variants.{CancelRequest}
 use Rattle.wire_cells.specs.Listed.{rowsListed}
 use Rattle.wire_cancel.specs.Taken.{cellsListed}
-use Rattle.wire_cancel.proofs.RecordLaws.{part, Says, cells-said, some-said, request-said, part-whole, none-put, short-put, record-put}
+use Rattle.wire_cells.proofs.WholeListLaws.{part, part-judged}
+use Rattle.wire_cancel.proofs.RecordLaws.{Says, cells-said, some-said, request-said, none-put, short-put, record-put}
 use borrow.Author.Needs.{needs}
 use Rattle.wire_cancel.proofs.put_record.Statement.{statement}
 use Rattle.wire_cancel.proofs.put_record.Tie as tie
@@ -35,8 +36,8 @@ counted c = c .before .before .before .before
 some : (c : Counted) → cancelsSome (cancelRequest (Says (called c .args .elements .now) (called c .args .seen))) ≡ true
 some c = some-said (called c .args .elements .now) (called c .args .seen) ∙ not-false _ (c .before .before .if1 .left)
 
-listed : (c : Counted) → c .cell-count .result ≡ length (cellsListed (part (called c .args .elements .now) (called c .args .seen)))
-listed c = c .cell-count .ensures .counts ∙ sym (length-map (rowsListed CancelRequest (part (called c .args .elements .now) (called c .args .seen))) (λ w. w .identity))
+listed : (c : Counted) → c .cell-count .result ≡ length (cellsListed (part CancelRequest (called c .args .elements .now) (called c .args .seen)))
+listed c = c .cell-count .ensures .counts ∙ sym (length-map (rowsListed CancelRequest (part CancelRequest (called c .args .elements .now) (called c .args .seen))) (λ w. w .identity))
 
 many : (c : Counted) → c .cell-count .result ≡ length (named (Says (called c .args .elements .now) (called c .args .seen)))
 many c = listed c ∙ ap length (cells-said (called c .args .elements .now) (called c .args .seen))
@@ -58,7 +59,7 @@ part-cells-end c = search needs
 cell-count-requires : tie.Need-cell-count-requires
 cell-count-requires c κs =
     let a = c .before .before .before .before .before in
-    part-whole (a .args .elements .now) (a .args .seen) (a .pre .0) (a .pre .1)
+    part-judged CancelRequest (a .args .elements .now) (a .args .seen) (a .pre .0) (a .pre .1)
 
 mul-if2 : tie.Need-mul-if2
 mul-if2 c = search needs
@@ -86,7 +87,7 @@ put-cells-requires c κs =
     let stored : Stored = c .before .before .before in
     let n = counted stored in
     let a = called n in
-    (part-whole (a .args .elements .now) (a .args .seen) (a .pre .0) (a .pre .1), rw (stored .put-fields .ensures, length-sets, ← listed n) (stored .before .before .before .if2 .left))
+    (part-judged CancelRequest (a .args .elements .now) (a .args .seen) (a .pre .0) (a .pre .1), rw (stored .put-fields .ensures, length-sets, ← listed n) (stored .before .before .before .if2 .left))
 
 mul-t12 : tie.Need-mul-t12
 mul-t12 c = search needs

@@ -1,14 +1,15 @@
 -- `elements` walks over all elements of a message: between two of them, what is still to come decides, on top of the account of what was seen.
+use Rattle.wire.specs.declared.Message.the-variants.{CancelRequest}
 use borrow.Author.Needs.{needs}
 use Rattle.wire_judge.proofs.ElementsLaws.{Going, walk-short, walk-extended, walk-start, turn-broken, turn-on, walk-behind, walk-whole}
 use Rattle.wire_judge.proofs.elements.Statement.{statement}
 use Rattle.wire_judge.proofs.elements.Tie as tie
 
 abbrev Inv-loop : tie.InvT-loop
-Inv-loop m s left₀ at₀ seen₀ left at seen = Going m s left at seen
+Inv-loop s left₀ at₀ seen₀ left at seen = Going CancelRequest s left at seen
 
 abbrev μ-loop : tie.MeasureT-loop
-μ-loop m s left₀ at₀ seen₀ left at seen = left
+μ-loop s left₀ at₀ seen₀ left at seen = left
 
 returns : tie.Need-returns Inv-loop μ-loop
 returns c = walk-short _ _ (λ i. c .before .shared-slice-known .given i .fits) (c .if1 .taken)

@@ -1,8 +1,16 @@
 -- `judge` gives the lowest of 13 to 16 over the whole message, or what a fit message says: each case is a law of `JudgeLaws`.
+use mathlib.Core.Path.{_≡_}
+use mathlib.Core.Bool.{Bool, not, _&&_}
+use Rattle.rules.proofs.TestLaws.{and-assoc}
+use Rattle.wire_judge.specs.declared.Seen.{Seen}
 use Rattle.wire_judge.proofs.JudgeLaws.{unframed, another, unwalked, rejected, wrong, fine}
 use borrow.Author.Needs.{needs}
 use Rattle.wire_judge.proofs.judge.Statement.{statement}
 use Rattle.wire_judge.proofs.judge.Tie as tie
+
+-- the test of 16, as the laws have it
+as-judged : (s : Seen) (b : Bool) → (((s .ordered && s .identified) && s .counted) && not (s .lacks)) ≡ b → ((s .ordered && (s .identified && s .counted)) && not (s .lacks)) ≡ b
+as-judged s b e = rw (and-assoc (s .ordered) (s .identified) (s .counted)) at e
 
 frame-requires : tie.Need-frame-requires
 frame-requires c κs = search needs
@@ -37,11 +45,8 @@ enum-known-seen c = search needs
 returns : tie.Need-returns
 returns c = rejected _ _ _ (rw (c .before .before .before .before .before .before .before .start .given .1) at (c .before .before .before .before .before .before .before .before .before .frame .ensures)) _ (rw (c .before .before .seen .given .1) at (c .before .before .before .before .elements .ensures)) (c .if1 .taken)
 
-has-all-requires : tie.Need-has-all-requires
-has-all-requires c κs = search needs
-
 returns-2 : tie.Need-returns-2
-returns-2 c = fine _ _ _ (rw (c .before .before .before .before .before .before .before .before .before .before .before .start .given .1) at (c .before .before .before .before .before .before .before .before .before .before .before .before .before .frame .ensures)) _ (rw (c .before .before .before .before .before .before .seen .given .1) at (c .before .before .before .before .before .before .before .before .elements .ensures)) (c .before .before .before .before .if1 .left) (rw (c .before .before .before .has-all .ensures) at (c .if2 .taken))
+returns-2 c = fine _ _ _ (rw (c .before .before .before .before .before .before .before .before .before .before .before .start .given .1) at (c .before .before .before .before .before .before .before .before .before .before .before .before .before .frame .ensures)) _ (rw (c .before .before .before .before .before .before .seen .given .1) at (c .before .before .before .before .before .before .before .before .elements .ensures)) (c .before .before .before .before .if1 .left) (as-judged (c .before .before .before .before .before .before .seen .given .0 .0) _ (c .if2 .taken))
 
 returns-3 : tie.Need-returns-3
 returns-3 c = unframed _ _ (rw (c .enum-told .given .1) at (c .before .before .frame .ensures))
@@ -53,7 +58,7 @@ returns-5 : tie.Need-returns-5
 returns-5 c = unwalked _ _ _ (rw (c .before .before .before .before .before .start .given .1) at (c .before .before .before .before .before .before .before .frame .ensures)) (rw (c .enum-told3 .given .1) at (c .before .before .elements .ensures))
 
 returns-6 : tie.Need-returns-6
-returns-6 c = wrong _ _ _ (rw (c .before .before .before .before .before .before .before .before .before .before .before .start .given .1) at (c .before .before .before .before .before .before .before .before .before .before .before .before .before .frame .ensures)) _ (rw (c .before .before .before .before .before .before .seen .given .1) at (c .before .before .before .before .before .before .before .before .elements .ensures)) (c .before .before .before .before .if1 .left) (rw (c .before .before .before .has-all .ensures) at (c .if2 .left))
+returns-6 c = wrong _ _ _ (rw (c .before .before .before .before .before .before .before .before .before .before .before .start .given .1) at (c .before .before .before .before .before .before .before .before .before .before .before .before .before .frame .ensures)) _ (rw (c .before .before .before .before .before .before .seen .given .1) at (c .before .before .before .before .before .before .before .before .elements .ensures)) (c .before .before .before .before .if1 .left) (as-judged (c .before .before .before .before .before .before .seen .given .0 .0) _ (c .if2 .left))
 
 pub judge-spec : {M : Type 1} → statement M
 judge-spec =
@@ -70,7 +75,6 @@ judge-spec =
     enum-told-3
     enum-known-seen
     returns
-    has-all-requires
     returns-2
     returns-3
     returns-4

@@ -9,7 +9,6 @@ use Rattle.wire.proofs.EntryLaws.{entry-plain, entry-none, entry-item, 
 use borrow.Author.Needs.{needs}
 use Rattle.wire.proofs.list.entry_at.Statement.{statement}
 use Rattle.wire.proofs.list.entry_at.Tie as tie
-use Rattle.aper.proofs.element_at.Reads as element-at-reads
 
 -- the stage behind an entry that was read with no look into it
 abbrev Read : Type 0
@@ -26,17 +25,17 @@ plain c = rw (c .if1 .taken) at (c .before .plain-item .ensures)
 plain-item-requires : tie.Need-plain-item-requires
 plain-item-requires c κs = search needs
 
-add-t11 : tie.Need-add-t11
-add-t11 c = search needs
-
 add-t12 : tie.Need-add-t12
 add-t12 c = search needs
+
+add-t13 : tie.Need-add-t13
+add-t13 c = search needs
 
 count-bytes-requires : tie.Need-count-bytes-requires
 count-bytes-requires c κs = search needs
 
-add-t14 : tie.Need-add-t14
-add-t14 c = record { fits = omega (arith, (plain (c .before)) .read .lies .1, c .count-bytes .ensures) }
+add-t15 : tie.Need-add-t15
+add-t15 c = record { fits = omega (arith, (plain (c .before)) .read .lies .1, c .count-bytes .ensures) }
 
 add-identity-at : tie.Need-add-identity-at
 add-identity-at c = search needs
@@ -51,8 +50,7 @@ returns : tie.Need-returns
 returns c =
     let start = c .before .before .before .before .before in
     let behind : start .args .at + 4 + 9 + c .before .count-bytes .result ≡ start .args .at + (4 + plainSize (start .args .m)) = omega (arith, c .before .count-bytes .ensures) in
-    let fifth : start .args .at + 4 + 1 ≡ start .args .at + 5 = omega arith in
-    entry-plain _ _ _ (λ i. c .before .before .before .before .shared-slice-known .given i .fits) (plain (c .before .before)) _ _ behind (rw fifth at (c .identity-at .ensures))
+    entry-plain _ _ _ (λ i. c .before .before .before .before .shared-slice-known .given i .fits) (plain (c .before .before)) _ _ behind (c .identity-at .ensures)
 
 element-at-requires : tie.Need-element-at-requires
 element-at-requires c κs = search needs
@@ -104,10 +102,10 @@ entry-at-spec =
     tie.close
     (tie.spec
     plain-item-requires
-    add-t11
     add-t12
+    add-t13
     count-bytes-requires
-    add-t14
+    add-t15
     add-identity-at
     add-identity-at-2
     identity-at-requires

@@ -5,8 +5,6 @@ use Rattle.wire.proofs.EntryLaws.{identity-small}
 use borrow.Author.Needs.{needs}
 use Rattle.wire.proofs.list.item_grade.Statement.{statement}
 use Rattle.wire.proofs.list.item_grade.Tie as tie
-use Rattle.aper.proofs.given_at.Reads as given-at-reads
-use Rattle.octets.proofs.get8.Reads as get8-reads
 
 returns : tie.Need-returns
 returns c = (item-cut _ _ (λ i. c .before .shared-slice-known .given i .fits) (c .if1 .taken), tt)

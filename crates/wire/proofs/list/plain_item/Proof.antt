@@ -7,8 +7,6 @@ use Rattle.wire.proofs.PlainLaws.{count-few, plain-there}
 use borrow.Author.Needs.{needs}
 use Rattle.wire.proofs.list.plain_item.Statement.{statement}
 use Rattle.wire.proofs.list.plain_item.Tie as tie
-use Rattle.octets.proofs.get32.Reads as get32-reads
-use Rattle.octets.proofs.get8.Reads as get8-reads
 
 count-bytes-requires : tie.Need-count-bytes-requires
 count-bytes-requires c κs = search needs
@@ -40,21 +38,18 @@ add-get8-2 c = search needs
 get8-requires-2 : tie.Need-get8-requires-2
 get8-requires-2 c κs = search needs
 
-item-id-requires : tie.Need-item-id-requires
-item-id-requires c κs = search needs
+mul-result : tie.Need-mul-result
+mul-result c = search needs
 
-cast-result : tie.Need-cast-result
-cast-result c = search needs
-
-cast-result-2 : tie.Need-cast-result-2
-cast-result-2 c = record { fits = omega (arith, c .before .before .before .before .before .count-bytes .ensures, count-few (c .before .before .before .before .before .before .before .args .m)) }
+add-result : tie.Need-add-result
+add-result c = search needs
 
 returns-2 : tie.Need-returns-2
 returns-2 c =
-    let start = c .before .before .before .before .before .before .before in
-    let long : start .args .at + (4 + plainSize (start .args .m)) ≤ length (start .args .s .now) = omega (arith, c .before .before .before .before .before .count-bytes .ensures, c .before .before .before .before .if1 .left) in
-    rw (c .before .before .before .before .before .count-bytes .ensures, c .item-id .ensures)
-    (plain-there (start .args .m) _ _ (λ i. c .before .before .before .before .before .before .shared-slice-known .given i .fits) long _ _ _ (c .before .before .before .get32 .ensures) (c .before .before .get8 .ensures) (c .before .get82 .ensures))
+    let start = c .before .before .before .before .before .before in
+    let long : start .args .at + (4 + plainSize (start .args .m)) ≤ length (start .args .s .now) = omega (arith, c .before .before .before .before .count-bytes .ensures, c .before .before .before .if1 .left) in
+    rw (start .pre .0)
+    (plain-there (start .args .m) _ _ (λ i. c .before .before .before .before .before .shared-slice-known .given i .fits) long _ _ _ (c .before .before .get32 .ensures) (c .before .get8 .ensures) (c .get82 .ensures))
 
 pub plain-item-spec : {M : Type 1} → statement M
 plain-item-spec =
@@ -70,7 +65,6 @@ plain-item-spec =
     get8-requires
     add-get8-2
     get8-requires-2
-    item-id-requires
-    cast-result
-    cast-result-2
+    mul-result
+    add-result
     returns-2)

@@ -5,17 +5,16 @@ use Prim.Native.Nat.{_≤_}
 use native.Mathlib.Omega.{arith}
 use mir.Val.{boolByte}
 use borrow.Author.Needs.{needs}
-use Rattle.formats.proofs.WalkLaws.{Walking, walk-breaks, walk-goes, walk-ends}
-use Rattle.wire.specs.Cells.{entryElement}
-use Rattle.wire.proofs.ListLaws.{withEntry, entry-broken, entry-joined, ListGoal, list-none, list-cut, list-many, list-start, list-behind, list-told}
+use Rattle.formats.proofs.WalkLaws.{walk-ends}
+use Rattle.wire.proofs.ListLaws.{ListWalk, list-none, list-cut, list-many, list-start, list-breaks, list-goes, list-behind, list-told}
 use Rattle.wire.proofs.list.told.Statement.{statement}
 use Rattle.wire.proofs.list.told.Tie as tie
 
 abbrev Inv-loop : tie.InvT-loop
-Inv-loop m s last left₀ at₀ rejected₀ foreign₀ ascends₀ least₀ left at rejected foreign ascends least = Walking (entryElement m) withEntry (ListGoal m s) s left at (rejected, (foreign, (ascends, least)))
+Inv-loop m s last plain left₀ at₀ rejected₀ foreign₀ ascends₀ least₀ left at rejected foreign ascends least = ListWalk m s left at (rejected, (foreign, (ascends, least)))
 
 abbrev μ-loop : tie.MeasureT-loop
-μ-loop m s last left₀ at₀ rejected₀ foreign₀ ascends₀ least₀ left at rejected foreign ascends least = left
+μ-loop m s last plain left₀ at₀ rejected₀ foreign₀ ascends₀ least₀ left at rejected foreign ascends least = left
 
 one-most : (b : Bool) → boolByte b ≤ 1
 one-most true = omega arith
@@ -33,11 +32,14 @@ cast-last c = search needs
 returns-2 : tie.Need-returns-2 Inv-loop μ-loop
 returns-2 c = list-none _ _ (list-many _ _ _ (c .before .before .if1 .left) (c .before .get16 .ensures) (c .if2 .taken))
 
+plain-head-requires : tie.Need-plain-head-requires Inv-loop μ-loop
+plain-head-requires c κs = search needs
+
 add-left : tie.Need-add-left Inv-loop μ-loop
 add-left c = search needs
 
 loop-holds : tie.Need-loop-holds Inv-loop μ-loop
-loop-holds c = list-start _ _ _ (c .before .before .if1 .left) (c .before .get16 .ensures) (c .if2 .left)
+loop-holds c = list-start _ _ _ (c .before .before .before .if1 .left) (c .before .before .get16 .ensures) (c .before .if2 .left)
 
 entry-at-requires : tie.Need-entry-at-requires Inv-loop μ-loop
 entry-at-requires c κs = search needs
@@ -48,8 +50,7 @@ enum-told c = search needs
 returns-3 : tie.Need-returns-3 Inv-loop μ-loop
 returns-3 c =
     let turn = c .before .before .before in
-    let so-far = turn .before .loop in
-    list-none _ _ (walk-breaks (so-far .inv) (turn .loop-test .taken) (entry-broken _ (so-far .rejected, (so-far .foreign, (so-far .ascends, so-far .least))) _ _ (rw (c .enum-told .given .1) at (c .before .before .entry-at .ensures))))
+    list-breaks _ _ (turn .before .loop .inv) (turn .loop-test .taken) (rw (c .enum-told .given .1) at (c .before .before .entry-at .ensures))
 
 enum-known-end : tie.Need-enum-known-end Inv-loop μ-loop
 enum-known-end c = search needs
@@ -66,9 +67,7 @@ loop-less c = search needs
 loop-again : tie.Need-loop-again Inv-loop μ-loop
 loop-again c =
     let turn = c .before .before .before .before in
-    let so-far = turn .before .loop in
-    let read = rw (c .before .end .given .1) at (c .before .before .before .entry-at .ensures) in
-    walk-goes (so-far .inv) (turn .loop-test .taken) _ _ (entry-joined _ (so-far .rejected, (so-far .foreign, (so-far .ascends, so-far .least))) _ _ _ _ _ _ read) (read .lies .0)
+    list-goes _ _ (turn .before .loop .inv) (turn .loop-test .taken) _ _ _ _ (rw (c .before .end .given .1) at (c .before .before .before .entry-at .ensures))
 
 returns-4 : tie.Need-returns-4 Inv-loop μ-loop
 returns-4 c = list-behind _ _ _ _ (walk-ends (c .before .before .loop .inv) (c .before .loop-test .left)) (c .before .before .loop .inv .within) (c .if3 .taken)
@@ -107,6 +106,7 @@ told-spec =
     get16-requires
     cast-last
     returns-2
+    plain-head-requires
     add-left
     loop-holds
     entry-at-requires

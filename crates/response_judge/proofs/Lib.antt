@@ -1,0 +1,3 @@
+pub mod FurtherLaws
+pub mod GlanceLaws
+pub mod Once
