@@ -46,6 +46,6 @@ items-left true to many k room h fits = (omega arith, omega arith)
 items-left false to many k room h fits = (omega arith, omega arith)
 
 -- the list where there are rows
-pub list-room : (counted : Bool) (at many : ℕ) {size : ℕ} (room : ℕ) → (many ≡ 0 → ⊥) → size ≡ entrySize (responseBy counted) → at + listedSize (responseBy counted) many ≤ room
+pub list-room : (counted : Bool) (at many : ℕ) {size : ℕ} (room : ℕ) → 0 < many → size ≡ entrySize (responseBy counted) → at + listedSize (responseBy counted) many ≤ room
     → at + elementSize (2 + size * many) ≤ room
-list-room counted at many room some e fits = rw e (rw (listed-some (responseBy counted) many some) at fits)
+list-room counted at many room some e fits = rw e (rw (listed-some (responseBy counted) many (λ z. omega arith)) at fits)

@@ -1,5 +1,5 @@
--- Parts that are stored one behind the other are stored as one: what stands before so many bytes, what stands before the list, an item.
-use mathlib.Core.Path.{_≡_, refl, sym, ap, _∙_}
+-- Parts that are stored one behind the other, or over zeros at another's end, are stored as one: what stands before so many bytes, what stands before the list, an item.
+use mathlib.Core.Path.{_≡_, refl, ap, _∙_}
 use mathlib.Core.Bool.{Bool, true, false}
 use mathlib.Core.List.{List, [], _∷_, _++_, flatMap}
 use Prim.Native.Nat.{ℕ, _+_, _-_, _*_, _/_, _%_, _^_, _<_, _≤_}
@@ -8,17 +8,17 @@ use lib.Dec.{ltb}
 use lib.ListN.{length}
 use lib.Seq.{sets}
 use mir.Val.{boolByte}
-use Rattle.octets.specs.Runs.{pieces}
 use Rattle.octets.specs.Numbers.{toBe}
-use Rattle.octets.proofs.RunsLaws.{sets-run}
+use Rattle.octets.proofs.RunsLaws.{sets-run, sets-across}
 use Rattle.octets.proofs.NumbersLaws.{length-toBe}
 use Rattle.rules.specs.Reply.{Row}
 use Rattle.answer.specs.Rows.{rowsIn}
 use Rattle.answer.proofs.RowsLaws.{length-rows}
 use Rattle.aper.specs.Elements.{shortLength, longLength}
 use Rattle.wire.specs.Messages.{transactionId, cellsId, countSize}
+use Rattle.wire.specs.Readers.{plainHead}
 use Rattle.responses.specs.ResponseSize.{listSize}
-use Rattle.response_write.specs.Parts.{responseBy, opening, openingSize, enclosed, itemStart, itemBytes, itemsBytes, listBytes, frontBytes, frontNumber}
+use Rattle.response_write.specs.Parts.{responseBy, opening, openingSize, enclosed, itemBytes, itemsBytes, listBytes, frontBytes, frontNumber}
 use Rattle.response_write.proofs.LengthLaws.{long-opening}
 use Rattle.response_write.proofs.SizeLaws.{length-opening, length-items}
 
@@ -56,17 +56,13 @@ front-stored l {a} at start n many t p q r e =
 -- ---- the list
 
 module _ (answer : List ℕ) (counted : Bool) (many : ℕ) where
-  list-some : (rows : List Row) → (length rows ≡ 0 → ⊥)
+  list-some : (rows : List Row) → 0 < length rows
       → listBytes (responseBy counted) rows ≡ opening (cellsId (responseBy counted)) (listSize (responseBy counted) (length rows)) ++ (toBe 2 (length rows - 1) ++ flatMap (itemBytes (responseBy counted)) rows)
   unfolding listBytes enclosed itemsBytes
-  list-some [] some = absurd (some refl)
+  list-some [] some = absurd (omega arith)
   list-some (w ∷ ws) some = ap (λ (n : ℕ). opening (cellsId (responseBy counted)) n ++ itemsBytes (responseBy counted) (w ∷ ws)) (length-items counted (w ∷ ws))
 
-  pub list-none : (l : List ℕ) (at : ℕ) → many ≡ 0 → l ≡ sets l at (listBytes (responseBy counted) (rowsIn answer many))
-  unfolding listBytes pieces
-  list-none l at e = rw e
-
-  pub list-stored : (l : List ℕ) (at from : ℕ) {a b c : List ℕ} (size : ℕ) → (many ≡ 0 → ⊥) → size ≡ listSize (responseBy counted) many
+  pub list-stored : (l : List ℕ) (at from : ℕ) {a b c : List ℕ} (size : ℕ) → 0 < many → size ≡ listSize (responseBy counted) many
       → a ≡ sets l at (opening (cellsId (responseBy counted)) size)
       → from ≡ at + openingSize size
       → b ≡ sets a from (toBe 2 (many - 1))
@@ -77,31 +73,36 @@ module _ (answer : List ℕ) (counted : Bool) (many : ℕ) where
       let long = length-opening (cellsId (responseBy counted)) size in
       let two = stored-then a from (from + 2) (toBe 2 (many - 1)) (flatMap (itemBytes (responseBy counted)) rows) q r (rw length-toBe) in
       stored-then l at from (opening (cellsId (responseBy counted)) size) (toBe 2 (many - 1) ++ flatMap (itemBytes (responseBy counted)) rows) p two (omega arith)
-      ∙ rw (list-some rows (λ z. some (sym (length-rows answer many) ∙ z)), length-rows answer many, whole)
+      ∙ rw (list-some rows (rw (length-rows answer many) some), length-rows answer many, whole)
 
 -- ---- an item
 
-module _ (l : List ℕ) (at : ℕ) (counted : Bool) (w : Row) {a b d : List ℕ} (p : a ≡ sets l at (toBe 4 (itemStart (responseBy counted)))) (q : b ≡ sets a (at + 4) (toBe 1 0))
-    (r : d ≡ sets b (at + 5) (toBe 8 (w .identity * 16))) where
+-- what stands before its cell, and zeros
+head-bytes : (counted : Bool) → toBe 8 (plainHead (responseBy counted) * 256 ^ 4) ≡ (toBe 4 (plainHead (responseBy counted)) ++ toBe 1 0) ++ toBe 3 0
+unfolding toBe
+head-bytes true = refl
+head-bytes false = refl
+
+module _ (l : List ℕ) (at : ℕ) (counted : Bool) (w : Row) {a b : List ℕ} (p : a ≡ sets l at (toBe 8 (plainHead (responseBy counted) * 256 ^ 4)))
+    (q : b ≡ sets a (at + 5) (toBe 8 (w .identity * 16))) where
   -- without its count
   abbrev Plain : List ℕ
-  Plain = (toBe 4 (itemStart (responseBy counted)) ++ toBe 1 0) ++ toBe 8 (w .identity * 16)
+  Plain = (toBe 4 (plainHead (responseBy counted)) ++ toBe 1 0) ++ toBe 8 (w .identity * 16)
 
-  plain-stored : d ≡ sets l at Plain
-  unfolding toBe
+  plain-stored : b ≡ sets l at Plain
   plain-stored =
-      let start = toBe 4 (itemStart (responseBy counted)) in
-      stored-then l at (at + 5) (start ++ toBe 1 0) (toBe 8 (w .identity * 16)) (stored-then l at (at + 4) start (toBe 1 0) p q refl) r refl
+      let flagged = toBe 4 (plainHead (responseBy counted)) ++ toBe 1 0 in
+      rw (q, p, head-bytes counted) (sets-across flagged (toBe 3 0) (toBe 8 (w .identity * 16)) l at (at + 5) (unfold toBe in refl) (unfold toBe in omega arith))
 
-  item-stored : {e : List ℕ} → e ≡ sets d (at + 13) (toBe (countSize (responseBy counted)) (w .count)) → e ≡ sets l at (itemBytes (responseBy counted) w)
+  item-stored : {e : List ℕ} → e ≡ sets b (at + 13) (toBe (countSize (responseBy counted)) (w .count)) → e ≡ sets l at (itemBytes (responseBy counted) w)
   unfolding itemBytes toBe
   item-stored s = stored-then l at (at + 13) Plain (toBe (countSize (responseBy counted)) (w .count)) plain-stored s refl
 
   -- one that has none
-  pub plain-item : counted ≡ false → d ≡ sets l at (itemBytes (responseBy counted) w)
+  pub plain-item : counted ≡ false → b ≡ sets l at (itemBytes (responseBy counted) w)
   unfolding toBe
   plain-item e = item-stored (rw e)
 
   -- one that has one
-  pub counted-item : counted ≡ true → {e : List ℕ} → e ≡ sets d (at + 13) (toBe 2 (w .count)) → e ≡ sets l at (itemBytes (responseBy counted) w)
+  pub counted-item : counted ≡ true → {e : List ℕ} → e ≡ sets b (at + 13) (toBe 2 (w .count)) → e ≡ sets l at (itemBytes (responseBy counted) w)
   counted-item t s = item-stored (rw t s)

@@ -1,13 +1,14 @@
 -- What is written for an answer, by the two tests: its response's bytes are the parts, and as many as were counted.
 use mathlib.Core.Path.{_≡_, ap, _∙_}
 use mathlib.Core.Bool.{Bool, true, false}
-use mathlib.Core.List.{List, _++_, append-assoc}
+use mathlib.Core.List.{List, _++_, append-assoc, append-nil}
 use Prim.Native.Nat.{ℕ, _+_, _<_, _≤_}
 use native.Mathlib.Omega.{arith}
 use lib.Dec.{eqb, ltb}
 use lib.ListN.{length, length-append}
 use lib.Seq.{sets}
 use borrow.Author.Tests.{le-leb, lt-leb}
+use Rattle.octets.specs.Runs.{pieces}
 use Rattle.rules.specs.Layout.{current, answerSize, cellEnd}
 use Rattle.rules.specs.Record.{cancelOrKill, kindOf}
 use Rattle.rules.specs.Answer.{answerOf, rowCount, legalRow}
@@ -20,12 +21,13 @@ use Rattle.answer.specs.Rows.{rowsIn}
 use Rattle.answer.proofs.RowsLaws.{length-rows}
 use Rattle.answer_judge.specs.Answerable.{isWired, answerable}
 use Rattle.answer_judge.proofs.AnswerableLaws.{Answerable, answerable-facts, wired-by}
+use Rattle.aper.proofs.ElementLaws.{short-size}
 use Rattle.responses.specs.Response.{responseTo, responseOf, responseVerdict, responseWritten}
 use Rattle.responses.specs.ResponseSize.{valueSize, responseSize}
 use Rattle.responses.proofs.ResponseSizeLaws.{response-size}
 use Rattle.wire.specs.declared.Message.{Message}
 use Rattle.wire.specs.Messages.{frameId}
-use Rattle.response_write.specs.Parts.{responseBy, opening, openingSize, enclosed, smallRows, RowsOf, listBytes, frontBytes, frontSize, valueBytes}
+use Rattle.response_write.specs.Parts.{responseBy, opening, openingSize, enclosed, smallRows, RowsOf, listBytes, frontBytes, frontSize, valueBytes, bareBytes, bareWritten}
 use Rattle.response_write.proofs.EncodedLaws.{response-bytes}
 use Rattle.response_write.proofs.SizeLaws.{length-opening, length-value}
 use Rattle.response_write.proofs.StoredLaws.{stored-then}
@@ -41,6 +43,34 @@ the-parts : (counted : Bool) (b : List ℕ) (many t : ℕ) → t < 256
 unfolding enclosed
 the-parts counted b many t byte =
     rw (length-value counted t byte (rowsIn b many), length-rows b many, append-assoc) (unfold valueBytes in rw (length-rows b many))
+
+-- ---- without rows
+
+-- there is nothing behind the front
+bare-parts : (counted : Bool) (b : List ℕ) (t : ℕ) → t < 256
+    → enclosed (frameId (responseBy counted)) (valueBytes (responseBy counted) t (rowsIn b 0)) ≡ bareBytes (responseBy counted) t
+unfolding bareBytes listBytes pieces
+bare-parts counted b t byte = the-parts counted b 0 t byte ∙ append-nil _
+
+-- a length below 128 has one byte
+abbrev bareSize : ℕ
+bareSize = 4 + frontSize
+
+module _ (counted : Bool) (t : ℕ) (buffer : List ℕ) where
+  length-bare : length (bareBytes (responseBy counted) t) ≡ bareSize
+  unfolding bareBytes
+  length-bare = rw (length-append, length-opening, short-size frontSize (omega arith))
+
+  pub short-bare : length buffer < bareSize → filledBy (Unwritten ShortBuffer) buffer ≡ bareWritten (responseBy counted) t buffer
+  unfolding bareWritten fill
+  short-bare h = rw (length-bare, lt-leb bareSize (length buffer) h)
+
+  pub all-bare : bareSize ≤ length buffer → {after : List ℕ} → after ≡ sets buffer 0 (bareBytes (responseBy counted) t)
+      → filledBy (Written bareSize) after ≡ bareWritten (responseBy counted) t buffer
+  unfolding bareWritten fill
+  all-bare h p = rw (length-bare, le-leb bareSize (length buffer) h, p, length-bare)
+
+-- ---- of an answer
 
 module _ (b : List ℕ) where
   pub not-written : (t : ℕ) (buffer : List ℕ) → answerable b ≡ false → filledBy (Unwritten AnswerWrong) buffer ≡ responseWritten b t buffer
@@ -81,6 +111,10 @@ module _ (b : List ℕ) where
         the-size =
             rw (response-to (answerOf current b .kind) (facts .wired), ← k, rows-given)
             (response-size message t (rowsIn b many) ∙ ap (responseSize message) (length-rows b many))
+
+        pub bare-written : many ≡ 0 → (buffer : List ℕ) → bareWritten message t buffer ≡ responseWritten b t buffer
+        unfolding bareWritten responseWritten responseVerdict
+        bare-written none buffer = rw (yes, the-bytes, none, bare-parts (eqb kind cancelOrKill) b t byte)
 
         module _ (buffer : List ℕ) (size : ℕ) (s : size ≡ responseSize message many) where
           pub short-written : length buffer < size → filledBy (Unwritten ShortBuffer) buffer ≡ responseWritten b t buffer

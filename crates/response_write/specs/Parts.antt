@@ -10,10 +10,13 @@ use Rattle.octets.specs.Numbers.{toBe}
 use Rattle.rules.specs.Lists.{every}
 use Rattle.rules.specs.Layout.{current, answerSize, rowSize, mostCells, cellEnd}
 use Rattle.rules.specs.Reply.{Row}
+use Rattle.rules.specs.Refusals.{test, firstOf, fitsIn}
+use Rattle.rules.specs.Applied.{Filled, fill}
+use Rattle.rules.specs.declared.Refusal.the-variants.{ShortBuffer}
 use Rattle.answer.specs.Rows.{rowsIn}
 use Rattle.aper.specs.Elements.{lengthBytes}
-use Rattle.wire.specs.Messages.{transactionId, cellsId, itemId, countSize}
-use Rattle.wire.specs.Readers.{plainSize}
+use Rattle.wire.specs.Messages.{frameId, transactionId, cellsId, countSize}
+use Rattle.wire.specs.Readers.{plainHead}
 use Rattle.wire.specs.declared.Message.{Message}
 use Rattle.wire.specs.declared.Message.the-variants.{CancelResponse, WriteReplaceResponse}
 
@@ -36,12 +39,9 @@ enclosed start bs = opening start (length bs) ++ bs
 
 -- ---- the list
 
--- id, criticality and length are one number; no flag is set; the 36 bits of a cell are followed by 4 of padding
-abbrev pub itemStart : Message → ℕ
-itemStart m = itemId m * 65536 + plainSize m
-
+-- id, a criticality of reject and length are one number; no flag is set; the 36 bits of a cell are followed by 4 of padding
 unfoldable pub itemBytes : Message → Row → List ℕ
-itemBytes m w = toBe 4 (itemStart m) ++ (toBe 1 0 ++ (toBe 8 (w .identity * 16) ++ toBe (countSize m) (w .count)))
+itemBytes m w = toBe 4 (plainHead m) ++ (toBe 1 0 ++ (toBe 8 (w .identity * 16) ++ toBe (countSize m) (w .count)))
 
 unfoldable pub itemsBytes : Message → List Row → List ℕ
 itemsBytes m rows = toBe 2 (length rows - 1) ++ flatMap (itemBytes m) rows
@@ -79,3 +79,11 @@ frontNumber many = elementCount many * 256 ^ 5 + (transactionId * 256 ^ 3 + 2 * 
 
 unfoldable pub valueBytes : Message → ℕ → List Row → List ℕ
 valueBytes m t rows = frontBytes (length rows) t ++ listBytes m rows
+
+-- without rows: a transaction identifier alone
+unfoldable pub bareBytes : Message → ℕ → List ℕ
+bareBytes m t = opening (frameId m) frontSize ++ frontBytes 0 t
+
+-- and what writing it leaves
+unfoldable pub bareWritten : Message → ℕ → List ℕ → Filled
+bareWritten m t buffer = fill (firstOf (test (fitsIn (length (bareBytes m t)) (length buffer)) ShortBuffer ∷ [])) (bareBytes m t) buffer

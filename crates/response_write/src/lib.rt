@@ -10,9 +10,10 @@ ghost use Rattle.rules.specs.Applied.{filledBy};
 ghost use Rattle.answer.specs.Rows.{rowsIn, rowSaid};
 ghost use Rattle.aper.specs.Elements.{longLength};
 ghost use Rattle.wire.specs.Messages.{frameId, cellsId};
+ghost use Rattle.wire.specs.Readers.{plainHead};
 ghost use Rattle.responses.specs.Response.{responseWritten};
 ghost use Rattle.responses.specs.ResponseSize.{elementSize, entrySize, listedSize};
-ghost use Rattle.response_write.specs.Parts.{responseBy, opening, openingSize, itemStart, itemBytes, RowsOf, listBytes, frontBytes, frontSize};
+ghost use Rattle.response_write.specs.Parts.{responseBy, opening, openingSize, itemBytes, RowsOf, listBytes, frontBytes, frontSize, bareWritten};
 use answer::Row;
 use answer::kind;
 use answer::row_at;
@@ -31,10 +32,13 @@ use wire::form::CANCELLED_ITEM;
 use wire::form::COMPLETED;
 use wire::form::COMPLETED_ITEM;
 use wire::form::COUNT;
+use wire::form::FRONT;
 use wire::form::IDENTITY_AT;
 use wire::form::IDENTITY_END;
 use wire::form::LISTED_HEAD;
+use wire::form::NUMBER_AT;
 use wire::form::PADDING;
+use wire::form::TRANSACTION;
 use wire::form::WRITE_REPLACE_RESPONSE;
 
 // A length below this has one byte, any other two, and the first bit of them is set.
@@ -60,14 +64,17 @@ const CANCELLED_START: u32 = (CANCELLED_ITEM as u32) * 65536
     + (IDENTITY_END as u32)
     + (COUNT as u32);
 
-// The number of elements and the transaction identifier's element but for its last byte, which is the number.
-const FRONT: usize = 9;
+// That number in front of four bytes of zeros, the first of which are the flags.
+const BEHIND_START: u64 = 0x100000000;
 
-const NUMBER_AT: usize = 8;
-
+// The number of elements and the transaction identifier's element but for its last byte, which is the number: as one number, an element and that one's id and
+// length.
 const ELEMENT: u64 = 0x10000000000;
 
-const TRANSACTION: u64 = 0x4e000200;
+const IDENTIFIER: u64 = (TRANSACTION as u64) * 0x1000000 + 0x200;
+
+// A response without rows has nothing behind that, and a length of one byte before it.
+const BARE: usize = START + 1 + FRONT;
 
 // ---- what tells the two responses apart; only the items of a PWS CANCEL RESPONSE have counts
 
@@ -90,7 +97,7 @@ fn list_id(counted: bool) -> u16
 }
 
 fn item_start(counted: bool) -> u32
-    ensures { λ r. ⌜ r ≡ itemStart (responseBy counted) ⌝ }
+    ensures { λ r. ⌜ r ≡ plainHead (responseBy counted) ⌝ }
 {
     if counted {
         return CANCELLED_START;
@@ -120,14 +127,12 @@ fn enclosed_size(n: usize) -> usize
     START + 2 + n
 }
 
-// "A list with no rows is left out."
+// The list's element, of one row or more.
 fn list_size(counted: bool, many: usize) -> usize
+    requires { ⌜ 0 < many ⌝ }
     requires { ⌜ many ≤ mostCells ⌝ }
     ensures { λ r. ⌜ r ≡ listedSize (responseBy counted) many ⌝ }
 {
-    if many == 0 {
-        return 0;
-    }
     enclosed_size(COUNTED + item_size(counted) * many)
 }
 
@@ -159,19 +164,19 @@ fn put_front(message: &mut [u8], counted: bool, value: usize, many: usize, trans
     put64(
         message,
         at,
-        (1 + ((0 < many) as u64)) * ELEMENT + TRANSACTION,
+        (1 + ((0 < many) as u64)) * ELEMENT + IDENTIFIER,
     );
     put8(message, at + NUMBER_AT, transaction);
     at + FRONT
 }
 
+// The head is stored as one number, whose last three bytes the cell goes over: one store less for each row.
 fn put_item(message: &mut [u8], at: usize, counted: bool, row: Row)
     requires { ⌜ at + entrySize (responseBy counted) ≤ length (now message) ⌝ }
     requires { ⌜ rowSaid row .identity < cellEnd ⌝ }
     ensures { λ _. ⌜ now (message .exit) ≡ sets (now (message .entry)) at (itemBytes (responseBy counted) (rowSaid row)) ⌝ }
 {
-    put32(message, at, item_start(counted));
-    put8(message, at + LISTED_HEAD, 0);
+    put64(message, at, (item_start(counted) as u64) * BEHIND_START);
     put64(message, at + CELL_AT, row.identity.0 * PADDING);
     if !counted {
         return;
@@ -194,15 +199,13 @@ fn put_items(message: &mut [u8], at: usize, counted: bool, answer: &[u8], many: 
     }
 }
 
-// The list, if there are rows.
+// The list, likewise.
 fn put_list(message: &mut [u8], at: usize, counted: bool, answer: &[u8], many: usize)
+    requires { ⌜ 0 < many ⌝ }
     requires { ⌜ at + listedSize (responseBy counted) many ≤ length (now message) ⌝ }
     requires { ⌜ RowsOf (now answer) many ⌝ }
     ensures { λ _. ⌜ now (message .exit) ≡ sets (now (message .entry)) at (listBytes (responseBy counted) (rowsIn (now (answer .entry)) many)) ⌝ }
 {
-    if many == 0 {
-        return;
-    }
     let start = put_opening(
         message,
         at,
@@ -215,6 +218,18 @@ fn put_list(message: &mut [u8], at: usize, counted: bool, answer: &[u8], many: u
 
 // ---- all of it
 
+// "A list with no rows is left out.": a transaction identifier alone.
+fn bare(message: &mut [u8], counted: bool, transaction: u8) -> Writing
+    ensures { λ r. ⌜ filledBy r (now (message .exit)) ≡ bareWritten (responseBy counted) transaction (now (message .entry)) ⌝ }
+{
+    if message.len() < BARE {
+        return Writing::Unwritten(Refusal::ShortBuffer);
+    }
+    put_front(message, counted, FRONT, 0, transaction);
+    Writing::Written(BARE)
+}
+
+// One without rows is written before anything about the list is computed: the compiler then saves no registers on that way.
 pub fn write_response(answer: &[u8], transaction: u8, message: &mut [u8]) -> Writing
     ensures { λ r. ⌜ filledBy r (now (message .exit)) ≡ responseWritten (now (answer .entry)) transaction (now (message .entry)) ⌝ }
 {
@@ -223,6 +238,9 @@ pub fn write_response(answer: &[u8], transaction: u8, message: &mut [u8]) -> Wri
     }
     let many = rows(answer);
     let counted = kind(answer) == CANCEL_OR_KILL;
+    if many == 0 {
+        return bare(message, counted, transaction);
+    }
     let value = FRONT + list_size(counted, many);
     let size = enclosed_size(value);
     if message.len() < size {

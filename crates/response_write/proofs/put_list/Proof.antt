@@ -1,4 +1,4 @@
--- `put_list` stores the list's element: what stands before it, the number of items less one, and the items; nothing without rows.
+-- `put_list` stores the list's element: what stands before it, the number of items less one, and the items.
 use mathlib.Core.Path.{ap}
 use Prim.Native.Nat.{ℕ, _+_, _*_, _<_, _≤_}
 use native.Mathlib.Omega.{arith}
@@ -6,7 +6,7 @@ use lib.ListN.{length}
 use Rattle.aper.specs.Elements.{longLength}
 use Rattle.responses.specs.ResponseSize.{elementSize}
 use Rattle.response_write.proofs.SizeLaws.{list-below, list-room}
-use Rattle.response_write.proofs.StoredLaws.{list-none, list-stored}
+use Rattle.response_write.proofs.StoredLaws.{list-stored}
 use borrow.Author.Needs.{needs}
 use Rattle.response_write.proofs.put_list.Statement.{statement}
 use Rattle.response_write.proofs.put_list.Tie as tie
@@ -19,18 +19,13 @@ abbrev Sized : Type 0
 Sized = tie.After-item-size
 
 abbrev called : Sized → Called
-called c = c .before .before .before .before .before .before
+called c = c .before .before .before .before .before
 
 most : (c : Sized) → 2 + c .item-size .result * called c .args .many < longLength
-most c = list-below (called c .args .counted) (c .item-size .ensures) (called c .pre .1 .few)
+most c = list-below (called c .args .counted) (c .item-size .ensures) (called c .pre .1 .1 .few)
 
 room : (c : Sized) → called c .args .at + elementSize (2 + c .item-size .result * called c .args .many) ≤ length (called c .args .message .now)
-room c = list-room (called c .args .counted) (called c .args .at) (called c .args .many) _ (c .before .before .before .if1 .left) (c .item-size .ensures) (called c .pre .0)
-
-returns : tie.Need-returns
-returns c =
-    let a = c .before .before .before .args in
-    list-none (a .answer .now) (a .counted) (a .many) (a .message .now) (a .at) (c .if1 .taken)
+room c = list-room (called c .args .counted) (called c .args .at) (called c .args .many) _ (called c .pre .0) (c .item-size .ensures) (called c .pre .1 .0)
 
 list-id-requires : tie.Need-list-id-requires
 list-id-requires c κs = search needs
@@ -63,19 +58,19 @@ put-items-requires : tie.Need-put-items-requires
 put-items-requires c κs =
     let sized : Sized = c .before .before .before .before .before .before .before .before in
     let fits = room sized in
-    (rw (← sized .item-size .ensures) (omega arith), called sized .pre .1)
+    (rw (← sized .item-size .ensures) (omega arith), called sized .pre .1 .1)
 
 same-length : tie.Need-same-length
 same-length c = search needs
 
-returns-2 : tie.Need-returns-2
-returns-2 c =
+returns : tie.Need-returns
+returns c =
     let items = c .before .before in
     let count = items .before .before .before .before in
     let opened = count .before .before .before .before in
     let sized : Sized = opened .before in
     let a = called sized .args in
-    list-stored (a .answer .now) (a .counted) (a .many) (a .message .now) (a .at) _ _ (sized .before .before .before .if1 .left)
+    list-stored (a .answer .now) (a .counted) (a .many) (a .message .now) (a .at) _ _ (called sized .pre .0)
     (ap (λ (n : ℕ). 2 + n * a .many) (sized .item-size .ensures)) (rw (← sized .before .list-id .ensures) (opened .put-opening .ensures .0)) (opened .put-opening .ensures .1)
     (count .put16 .ensures) (items .put-items .ensures)
 
@@ -83,7 +78,6 @@ pub put-list-spec : {M : Type 1} → statement M
 put-list-spec =
     tie.close
     (tie.spec
-    returns
     list-id-requires
     item-size-requires
     mul-put-opening
@@ -95,4 +89,4 @@ put-list-spec =
     add-put-items
     put-items-requires
     same-length
-    returns-2)
+    returns)
