@@ -60,6 +60,7 @@ samples-hold =
       seventeen-first = refl;
       left = refl;
       wrong-kind = refl;
+      failed = refl;
       one-second = refl;
       no-kind = refl;
       falling = refl;

@@ -153,8 +153,9 @@ pub record ResponseSamples : Type 0 where
   pub fits : verdictNumber (readVerdict r2 40) ≡ 0
   pub seventeen-first : verdictNumber (readVerdict (outcome 0x14 0x29 2 (numbered 7 ++ (starts 0x1c 1 ++ (started 1 ++ started 1)))) 0) ≡ 17
   pub left : responseRead r2 (again 39 (0xff ∷ [])) ≡ record { number = 8; transaction = 0; length = 0; buffer = again 39 (0xff ∷ []) }
-  -- 17, writing: a kind that is not wired and one that there is not, cells that descend, a cell twice
+  -- 17, writing: each kind that is not wired and one that there is not, cells that descend, a cell twice
   pub wrong-kind : unsent (answer 3 named 0 []) ≡ 17
+  pub failed : unsent (answer 4 named 0 []) ≡ 17
   pub one-second : unsent (answer 5 named 0 []) ≡ 17
   pub no-kind : unsent (answer 0 named 0 []) ≡ 17
   pub falling : unsent (answer 2 named 2 (row 0x20 0x00 0x00 ++ row 0x10 0x00 0x00)) ≡ 17
