@@ -1,10 +1,9 @@
 -- A broadcast of a place: with its counts stored and its row written, all that `Aired` says of the cell, the answer and the end.
 -- The place after the second is the place with one more broadcast sent and its wait anew, `later-due`.
 use mathlib.Core.Path.{_≡_, sym, ap, ap₂, _∙_}
-use mathlib.Core.Bool.{Bool, true, false, not, _&&_}
+use mathlib.Core.Bool.{Bool, not, _&&_}
 use mathlib.Core.List.{List, [], _∷_, flatMap}
-use Prim.Native.Nat.{ℕ, _*_, _≤_}
-use native.Mathlib.Omega.{arith}
+use Prim.Native.Nat.{ℕ, _*_}
 use mir.Val.{boolByte}
 use lib.Dec.{eqb}
 use lib.ListN.{take}
@@ -18,7 +17,7 @@ use Rattle.rules.specs.Reply.{Row}
 use Rattle.rules.specs.declared.Seconds.{Seconds}
 use Rattle.rules.specs.declared.Broadcasts.{Broadcasts}
 use Rattle.rules.specs.declared.Place.{Place}
-use Rattle.rules.proofs.TestLaws.{by-test}
+use Rattle.rules.proofs.TestLaws.{by-test, one-most}
 use Rattle.rules.proofs.SecondLaws.{later-due}
 use Rattle.cell_read.specs.Places.{withPlace, placeAt}
 use Rattle.in_cell.specs.Second.{endings, ToAir, Aired}
@@ -26,10 +25,6 @@ use Rattle.in_cell.specs.Second.{endings, ToAir, Aired}
 endings-one : (p : Place) → endings (p ∷ []) ≡ boolByte (hasEnded p)
 unfolding endings those flatMap
 endings-one p = by-test (hasEnded p) (λ t. rw t) (λ t. rw t)
-
-byte-one : (b : Bool) → boolByte b ≤ 1
-byte-one true = omega arith
-byte-one false = omega arith
 
 row-same : (i s t : ℕ) {i′ s′ t′ : ℕ} → i ≡ i′ → s ≡ s′ → t ≡ t′
     → _≡_ {A = Row} (record { identity = i; count = s; content = t }) (record { identity = i′; count = s′; content = t′ })
@@ -62,5 +57,5 @@ module _ (c out : List ℕ) (k n : ℕ) (to : ToAir c out k n) (sent : Broadcast
         cell = e-cell ∙ rw after;
         row = e-out ∙ ap (λ (w : Row). sets out (rowSize current * n) (rowBytes current w)) (row-same identity (sent .0) content e-identity after-sent e-content);
         ended = rw (e-last, ← after-ends) (sym (endings-one (later (placeAt c k))));
-        one = byte-one last;
+        one = one-most last;
       }

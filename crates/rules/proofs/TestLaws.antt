@@ -5,12 +5,18 @@ use mathlib.Core.Bool.{Bool, true, false, cond, _&&_, _||_, false≢true}
 use Prim.Native.Nat.{ℕ, _≤_}
 use native.Mathlib.Omega.{arith}
 use borrow.Author.Tests.{ltb-true, ltb-false}
+use mir.Val.{boolByte}
 use lib.Dec.{ltb}
 use Rattle.rules.specs.Lists.{larger}
 
 pub both : (a b : Bool) → a && b ≡ true → (a ≡ true) × (b ≡ true)
 both true b e = (refl, e)
 both false b e = absurd (false≢true e)
+
+-- a test as a number
+pub one-most : (b : Bool) → boolByte b ≤ 1
+one-most true = omega arith
+one-most false = omega arith
 
 pub and-true : (a b : Bool) → a ≡ true → b ≡ true → a && b ≡ true
 and-true a b p q = rw (p, q)

@@ -12,6 +12,7 @@ use borrow.Author.Tests.{ltb-true, lt-ltb, ne-eqb}
 use Rattle.rules.specs.Record.{concurrent}
 use Rattle.rules.specs.ZeroRules.{yes, no, requested0, requested1, requestedMore, period0, periodMore, decided, requestedOf, periodOf, stops, zeroRulesStop}
 use Rattle.rules.specs.declared.Request.{Request}
+use Rattle.rules.proofs.TestLaws.{one-most}
 
 -- ---- the number
 
@@ -22,17 +23,13 @@ number flag some more again = 6 * boolByte flag + 2 * (boolByte some + boolByte 
 abbrev numberOf : Bool → Request → ℕ
 numberOf flag q = number flag (ltb 0 (q .requested .0)) (ltb 1 (q .requested .0)) (ltb 0 (q .period .0))
 
-bit : (b : Bool) → boolByte b ≤ 1
-bit true = omega arith
-bit false = omega arith
-
 -- each test adds 1 at most, so that every part of the number is small and the whole is below 12
 pub tests-small : (flag : Bool) (q : Request)
     → (boolByte flag ≤ 1)
     × (boolByte (ltb 0 (q .requested .0)) ≤ 1)
     × (boolByte (ltb 1 (q .requested .0)) ≤ 1)
     × (boolByte (ltb 0 (q .period .0)) ≤ 1)
-tests-small flag q = (bit flag, bit (ltb 0 (q .requested .0)), bit (ltb 1 (q .requested .0)), bit (ltb 0 (q .period .0)))
+tests-small flag q = (one-most flag, one-most (ltb 0 (q .requested .0)), one-most (ltb 1 (q .requested .0)), one-most (ltb 0 (q .period .0)))
 
 -- ---- the columns
 

@@ -1,18 +1,11 @@
 -- `put_front` stores what stands before the value, and the value up to its list.
-use Prim.Native.Nat.{_≤_}
 use native.Mathlib.Omega.{arith}
 use lib.Dec.{ltb}
-use mathlib.Core.Bool.{Bool, true, false}
-use mir.Val.{boolByte}
+use Rattle.rules.proofs.TestLaws.{one-most}
 use Rattle.response_write.proofs.StoredLaws.{front-stored}
 use borrow.Author.Needs.{needs}
 use Rattle.response_write.proofs.put_front.Statement.{statement}
 use Rattle.response_write.proofs.put_front.Tie as tie
-
--- a test as a number
-one-most : (b : Bool) → boolByte b ≤ 1
-one-most true = omega arith
-one-most false = omega arith
 
 frame-start-requires : tie.Need-frame-start-requires
 frame-start-requires c κs = search needs

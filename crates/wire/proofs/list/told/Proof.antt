@@ -1,10 +1,8 @@
 -- `told` tells, as a number, whether something in the list is marked reject, whether an item is not a cell's and whether the cells ascend: what is still to come decides,
 -- on top of what was gathered so far.
-use mathlib.Core.Bool.{Bool, true, false}
-use Prim.Native.Nat.{_≤_}
 use native.Mathlib.Omega.{arith}
-use mir.Val.{boolByte}
 use borrow.Author.Needs.{needs}
+use Rattle.rules.proofs.TestLaws.{one-most}
 use Rattle.formats.proofs.WalkLaws.{walk-ends}
 use Rattle.wire.proofs.ListLaws.{ListWalk, list-none, list-cut, list-many, list-start, list-breaks, list-goes, list-behind, list-told}
 use Rattle.wire.proofs.list.told.Statement.{statement}
@@ -15,10 +13,6 @@ Inv-loop m s last plain left₀ at₀ rejected₀ foreign₀ ascends₀ least₀
 
 abbrev μ-loop : tie.MeasureT-loop
 μ-loop m s last plain left₀ at₀ rejected₀ foreign₀ ascends₀ least₀ left at rejected foreign ascends least = left
-
-one-most : (b : Bool) → boolByte b ≤ 1
-one-most true = omega arith
-one-most false = omega arith
 
 returns : tie.Need-returns Inv-loop μ-loop
 returns c = list-none _ _ (list-cut _ _ (c .if1 .taken))
