@@ -45,19 +45,19 @@ number-told l bytes long zero = transaction-there (take 2 (drop 7 l)) two 0 (sym
     held-at i h = ap be (sym (ap (λ (s : List ℕ). gets s i 1) (sym (gets-eq 2 l 7 long)) ∙ gets-gets 1 2 l 7 i h))
 
 pub front-there : (l : List ℕ) → Bytes l → 9 ≤ length l → (blank head padding : ℕ) → blank ≡ be (gets l 0 1) → head ≡ be (gets l 3 4) → padding ≡ be (gets l 7 1)
-    → Fronted l ((eqb blank 0 && eqb (head / 65536 * 65536 + head % 16384) 5111810) && eqb padding 0)
-front-there l bytes long blank head padding first here seventh = tested ((eqb blank 0 && eqb (head / 65536 * 65536 + head % 16384) 5111810) && eqb padding 0) refl
+    → Fronted l ((eqb blank 0 && eqb (head / 65536 * 65536 + head % 16384) (transactionId * 65536 + 2)) && eqb padding 0)
+front-there l bytes long blank head padding first here seventh = tested ((eqb blank 0 && eqb (head / 65536 * 65536 + head % 16384) (transactionId * 65536 + 2)) && eqb padding 0) refl
   where
-    tested : (t : Bool) → ((eqb blank 0 && eqb (head / 65536 * 65536 + head % 16384) 5111810) && eqb padding 0) ≡ t → Fronted l t
+    tested : (t : Bool) → ((eqb blank 0 && eqb (head / 65536 * 65536 + head % 16384) (transactionId * 65536 + 2)) && eqb padding 0) ≡ t → Fronted l t
     tested false e = tt
     tested true e =
-        let two = both (eqb blank 0 && eqb (head / 65536 * 65536 + head % 16384) 5111810) (eqb padding 0) e in
-        let one = both (eqb blank 0) (eqb (head / 65536 * 65536 + head % 16384) 5111810) (two .0) in
+        let two = both (eqb blank 0 && eqb (head / 65536 * 65536 + head % 16384) (transactionId * 65536 + 2)) (eqb padding 0) e in
+        let one = both (eqb blank 0) (eqb (head / 65536 * 65536 + head % 16384) (transactionId * 65536 + 2)) (two .0) in
         record {
           long = long;
           blank = sym first ∙ eqb-true blank 0 (one .0);
           criticality = be (gets l 5 1) / 64;
-          read = short-element l 3 transactionId 2 bytes long (omega arith) (omega arith) (λ z. omega (arith, z)) head here (eqb-true (head / 65536 * 65536 + head % 16384) 5111810 (one .1));
+          read = short-element l 3 transactionId 2 bytes long (omega arith) (omega arith) (λ z. omega (arith, z)) head here (eqb-true (head / 65536 * 65536 + head % 16384) (transactionId * 65536 + 2) (one .1));
           tells = number-told l bytes long (sym seventh ∙ eqb-true padding 0 (two .1));
         }
 

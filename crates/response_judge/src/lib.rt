@@ -21,8 +21,11 @@ use wire::form::BLANK_AT;
 use wire::form::ELEMENTS_AT;
 use wire::form::FIRST_AT;
 use wire::form::FRONT;
+use wire::form::IDENTIFIED;
 use wire::form::NUMBER_AT;
 use wire::form::TRANSACTION;
+use wire::list::NO_LIST;
+use wire::list::PLAIN_MARKS;
 use wire::list::plain_list;
 use wire::list::told;
 use wire::transaction;
@@ -67,14 +70,6 @@ pub enum Judged {
     Unfit(Refusal),
 }
 
-// A list's marks are below this number where it is one; where nothing in it is marked reject and each item is a cell's, below the other.
-const LISTS: u8 = 8;
-
-const PLAIN_LISTS: u8 = 2;
-
-// A transaction identifier's id and length, without its criticality.
-const IDENTIFIED: u32 = (TRANSACTION as u32) * 65536 + 2;
-
 // ---- element by element
 
 fn nothing_met() -> Met
@@ -117,7 +112,7 @@ fn identified(met: Met, number: u16, end: usize) -> Onward
 fn listed(met: Met, id: u16, marks: u8, start: usize, end: usize) -> Onward
     ensures { λ r. ⌜ r ≡ listedBy met id marks start end ⌝ }
 {
-    if LISTS <= marks {
+    if NO_LIST <= marks {
         return Onward::Nowhere;
     }
     let mut now = in_turn(met, id);
@@ -244,7 +239,7 @@ fn plain(m: Message, s: &[u8]) -> Glance
         Step::One(id, _, start, end) => {
             if (id == cells_id(m)) & (end == s.len()) {
                 let marks = plain_list(m, &s[start..end]);
-                if marks < PLAIN_LISTS {
+                if marks < PLAIN_MARKS {
                     return Glance::Alone(alone(number, id, start, end, marks == 1));
                 }
             }

@@ -33,12 +33,12 @@ use wire::form::COMPLETED;
 use wire::form::COMPLETED_ITEM;
 use wire::form::COUNT;
 use wire::form::FRONT;
+use wire::form::IDENTIFIED;
 use wire::form::IDENTITY_AT;
 use wire::form::IDENTITY_END;
 use wire::form::LISTED_HEAD;
 use wire::form::NUMBER_AT;
 use wire::form::PADDING;
-use wire::form::TRANSACTION;
 use wire::form::WRITE_REPLACE_RESPONSE;
 
 // A length below this has one byte, any other two, and the first bit of them is set.
@@ -71,7 +71,7 @@ const BEHIND_START: u64 = 0x100000000;
 // length.
 const ELEMENT: u64 = 0x10000000000;
 
-const IDENTIFIER: u64 = (TRANSACTION as u64) * 0x1000000 + 0x200;
+const IDENTIFIER: u64 = (IDENTIFIED as u64) * 256;
 
 // A response without rows has nothing behind that, and a length of one byte before it.
 const BARE: usize = START + 1 + FRONT;

@@ -10,6 +10,8 @@ use Rattle.wire.proofs.hear.Reads as hear
 use Rattle.wire.proofs.identity_at.Reads as identity-at
 use Rattle.wire.proofs.cells_id.Reads as cells-id
 use Rattle.wire.proofs.transaction.Reads as transaction
+use Rattle.wire.proofs.list.heard.Reads as heard
+use Rattle.wire.proofs.list.list_told.Reads as list-told
 use Rattle.wire.proofs.list.told.Reads as told
 
 pub hear-once : SettlesResult hear.Learnt
@@ -20,6 +22,12 @@ transaction-once κ args r s e f p q = heard-settled (transactionHeard r) (trans
 
 pub told-once : Settles {X = Heard} told.Learnt (λ κ r e. listHeard r)
 told-once κ args r s e f p q = heard-settled (listHeard r) (listHeard s) (one-outcome p q)
+
+pub list-told-once : Settles {X = Heard} list-told.Learnt (λ κ r e. listHeard r)
+list-told-once κ args r s e f p q = heard-settled (listHeard r) (listHeard s) (one-outcome p q)
+
+pub heard-once : SettlesResult heard.Learnt
+heard-once κ args r s e f = one-outcome
 
 pub cells-id-once : SettlesResult cells-id.Learnt
 cells-id-once κ args r s e f = one-outcome

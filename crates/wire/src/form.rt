@@ -11,6 +11,9 @@ pub const WRITE_REPLACE_RESPONSE: u16 = 0x4014;
 // id, criticality, length, a byte 0 and the number.
 pub const TRANSACTION: u16 = 78;
 
+// Its id and its length as one number, without its criticality.
+pub const IDENTIFIED: u32 = (TRANSACTION as u32) * 65536 + 2;
+
 pub const ELEMENTS_AT: usize = 1;
 
 pub const FIRST_AT: usize = 3;

@@ -34,7 +34,11 @@ const LAST_LISTED: usize = LISTED_HEAD + LAST_OF_IDENTITY;
 
 const MOST_LISTED: usize = 512;
 
-const NO_LIST: u8 = 8;
+// No marks of a list.
+pub const NO_LIST: u8 = 8;
+
+// Marks below this number are those of a list in which nothing is marked reject and each item is a cell's.
+pub const PLAIN_MARKS: u8 = 2;
 
 fn item_id(m: Message) -> u16
     ensures { λ r. ⌜ r ≡ itemId m ⌝ }
@@ -219,7 +223,7 @@ pub fn list_told(m: Message, s: &[u8]) -> u8
     ensures { λ r. ⌜ Tells (contentsBy m theCells) (now (s .entry)) (listHeard r) ⌝ }
 {
     let plain = plain_list(m, s);
-    if plain < 2 {
+    if plain < PLAIN_MARKS {
         return plain;
     }
     told(m, s)
