@@ -1,4 +1,6 @@
 // An answer in lent bytes: the room that it asks for, its head and its rows, written; its kind and its rows, read.
+#![tactic(auto)]
+
 ghost use Rattle.std.specs.Prelude.{◌≡◌, ◌+◌, ◌*◌, ◌≤◌, length};
 ghost use Rattle.std.proofs.lemmas.List.Edits.{sets};
 ghost use Rattle.rules.specs.Layout.{current, answer_size, row_size, most_cells, places_per_cell};

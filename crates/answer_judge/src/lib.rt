@@ -1,4 +1,6 @@
 // Whether lent bytes can be the answer of an accepted Write-Replace or Cancel (document 02, 6/13): the head, then the rows in one pass.
+#![tactic(auto)]
+
 ghost use Rattle.std.specs.Prelude.{◌≡◌, map, ◌+◌, ◌*◌, ◌≤◌, length, drop};
 ghost use Rattle.octets.specs.Runs.{gets, pieces};
 ghost use Rattle.rules.specs.Layout.{current, answer_size, row_size};

@@ -1,4 +1,6 @@
 // What F1AP's messages are made of, in the aligned packed encoding of X.691, read at an index of lent bytes.
+#![tactic(auto)]
+
 ghost use Rattle.std.specs.Prelude.{◌≡◌, ◌<◌, ◌≤◌, length};
 ghost use Rattle.aper.specs.Readers.{LengthAt, ElementAt, RunAt, GivenAt};
 

@@ -1,4 +1,6 @@
 // Changes to a cell's places, in place: no byte is written that stays as it is, but for the places that move. And the bytes of a place.
+#![tactic(auto)]
+
 ghost use Rattle.std.specs.Prelude.{◌≡◌, [], ◌∷◌, ◌++◌, ◌+◌, ◌≤◌, ◌<◌, length};
 ghost use Rattle.std.proofs.lemmas.List.Edits.{sets};
 ghost use Rattle.octets.specs.Runs.{gets};

@@ -1,5 +1,7 @@
 // A cell of a table in its lent bytes, read: of one place, by its number; of all, which has a text; and of the head. What is said of it
 // is the list of its live places and a place's number, so that a layout's offsets stay in here and in `cell_change`, which changes it.
+#![tactic(auto)]
+
 ghost use Rattle.std.specs.Prelude.{◌≡◌, ◌<◌, ltb, length, take};
 ghost use Rattle.rules.specs.Layout.{current, head_size, places_per_cell, cell_size};
 ghost use Rattle.rules.specs.Identity.{identity_number, tracking_item};

@@ -19,12 +19,16 @@ pub length_bytes_of : (ws vs : List ℕ) → Fit ws vs → length (bytes_of ws v
 unfolding bytes_of size
 length_bytes_of [] [] none = refl
 length_bytes_of (w ∷ ws) (v ∷ vs) (field h f) = rw (length-append, length-to_be, length_bytes_of ws vs f)
+length_bytes_of [] (v ∷ vs) x'' = elim x'' [ ]
+length_bytes_of (w ∷ ws) [] x3 = elim x3 [ ]
 
 pub bytes_bytes_of : (ws vs : List ℕ) → Fit ws vs → Bytes (bytes_of ws vs)
 unfolding bytes_of
 bytes_bytes_of [] [] none = λ i. omega arith
 bytes_bytes_of (w ∷ ws) (v ∷ vs) (field h f) =
     bytes_append (to_be w v) (bytes_of ws vs) (bytes-to_be w v h) (bytes_bytes_of ws vs f)
+bytes_bytes_of [] (v ∷ vs) x'' = elim x'' [ ]
+bytes_bytes_of (w ∷ ws) [] x3 = elim x3 [ ]
 
 -- what was written is read back, whatever stands behind it
 pub numbers_bytes_of : (ws vs rest : List ℕ) → Fit ws vs → numbers ws (bytes_of ws vs ++ rest) ≡ vs
@@ -33,6 +37,8 @@ numbers_bytes_of [] [] rest none = refl
 numbers_bytes_of (w ∷ ws) (v ∷ vs) rest (field h f) =
     let e : length (to_be w v) ≡ w = length-to_be w v in
     rw (append_assoc, take_at (to_be w v) (bytes_of ws vs ++ rest) w e, drop_at (to_be w v) (bytes_of ws vs ++ rest) w e, be-to_be w v h, numbers_bytes_of ws vs rest f)
+numbers_bytes_of [] (v ∷ vs) rest x'' = elim x'' [ ]
+numbers_bytes_of (w ∷ ws) [] rest x3 = elim x3 [ ]
 
 -- what was read is written again as it stood
 pub bytes_of_numbers : (ws l : List ℕ) → Bytes l → size ws ≤ length l → bytes_of ws (numbers ws l) ≡ take (size ws) l

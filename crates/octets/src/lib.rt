@@ -1,4 +1,6 @@
 // Big-endian numbers and runs of bytes in lent slices. A number is one load or store and a turn of its bytes; one of 24 bits is read by two loads.
+#![tactic(auto)]
+
 mod moved;
 mod turned;
 

@@ -1,4 +1,6 @@
 // The C surface: numbers and byte slices in, numbers out. Each function hands its buffers to the crate that does the work.
+#![tactic(auto)]
+
 ghost use Rattle.std.specs.Prelude.{◌≡◌};
 ghost use Rattle.rules.specs.Applied.{no_request};
 ghost use Rattle.pws.specs.Surface.{done_by, message_by};

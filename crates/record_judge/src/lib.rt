@@ -1,5 +1,7 @@
 // The tests 5, 6 and 7 of a request: document 01, "The request record". The reader of a record and its writer ask this one judge.
 // It is told numbers alone, which go in registers: which fields are zero, and which bits are set in the items, each side finds in its own way.
+#![tactic(auto)]
+
 ghost use Rattle.std.specs.Prelude.{◌≡◌, [], ◌∷◌};
 ghost use Rattle.rules.specs.Lists.{one_of};
 ghost use Rattle.rules.specs.Record.{any_area, item_end, kind_of};

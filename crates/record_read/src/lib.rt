@@ -1,4 +1,6 @@
 // The reader: whether bytes are an accepted record, and what such a record says. The items stay in the record.
+#![tactic(auto)]
+
 mod mark;
 
 ghost use Rattle.std.specs.Prelude.{◌≡◌, map, ◌+◌, ◌*◌, ◌≤◌, length, drop};

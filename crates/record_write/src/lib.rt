@@ -1,4 +1,6 @@
 // The writer: a request and its items as a record at the start of a buffer, or the refusal and nothing written.
+#![tactic(auto)]
+
 ghost use Rattle.std.specs.Prelude.{◌≡◌, ◌+◌, ◌*◌, ◌≤◌, length, drop};
 ghost use mathlib.Core.List.{flat_map, [], ◌∷◌};
 ghost use Rattle.std.proofs.lemmas.List.Edits.{sets};

@@ -1,5 +1,7 @@
 // The program "broadcast report": N, N heads and then request records on standard input; what each is told on standard output.
 // Only reading and writing stand here, and the loop around them; what is said, and when, is in the crate report_turns.
+#![tactic(auto)]
+
 ghost use Rattle.std.specs.Prelude.{false, ◌≡◌, ◌-◌, ◌≤◌, ◌<◌, length};
 ghost use Rattle.rules.specs.Layout.{most_cells};
 ghost use Rattle.report_lines.specs.Framing.{heads_end};

@@ -1,5 +1,7 @@
 // The program "broadcast report" between its reads and its writes: one turn over the bytes at hand, so that whoever reads and writes
 // around it needs to know nothing of what is said.
+#![tactic(auto)]
+
 ghost use Rattle.std.specs.Prelude.{◌≡◌, length};
 ghost use Rattle.report_turns.specs.Buffers.{Standing, Turned, ToTake, Stepped, program_in};
 ghost use Rattle.report_turns.specs.Talk.{started};

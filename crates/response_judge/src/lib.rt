@@ -1,5 +1,7 @@
 // Whether bytes are a certain response that can be taken (13 to 16). Most responses are a transaction identifier and a list alone, or without the list: these
 // are seen at once. Any other is walked over, element by element. Requests have a judge of their own: shared, either would be a call.
+#![tactic(auto)]
+
 ghost use Rattle.std.specs.Prelude.{◌≡◌, ◌≤◌, length};
 ghost use Rattle.wire.specs.declared.Message.TheVariants.{CancelRequest};
 ghost use Rattle.wire_judge.specs.Account.{Lies};

@@ -1,4 +1,6 @@
 // A response taken from the wire (document 02, 6/13): the message is judged, and then the answer is written, each row out of the message's own bytes.
+#![tactic(auto)]
+
 ghost use Rattle.std.specs.Prelude.{◌≡◌, false, ◌+◌, ◌*◌, ◌≤◌, length};
 ghost use mathlib.Core.List.{flat_map};
 ghost use Rattle.std.proofs.lemmas.List.Edits.{sets};

@@ -1,5 +1,7 @@
 // A response written from an answer and a transaction identifier (document 02, 6/13): how long it will be, and then its parts, one behind the other,
 // each item out of a row of the answer.
+#![tactic(auto)]
+
 ghost use Rattle.std.specs.Prelude.{◌≡◌, ◌+◌, ◌*◌, ◌<◌, ◌≤◌, length};
 ghost use mathlib.Core.List.{◌++◌, flat_map};
 ghost use Rattle.std.proofs.lemmas.List.Edits.{sets};

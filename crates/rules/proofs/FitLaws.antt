@@ -30,6 +30,8 @@ unfolding fits
 Fit-fits [] [] none = refl
 Fit-fits (w ∷ ws) (v ∷ vs) (field h f) =
     and-true (ltb v (256 ^ w)) (fits ws vs) (lt-ltb v (256 ^ w) h) (Fit-fits ws vs f)
+Fit-fits [] (v ∷ vs) x'' = elim x'' [ ]
+Fit-fits (w ∷ ws) [] x3 = elim x3 [ ]
 
 -- ---- what a layout's user needs beside the laws of layouts
 

@@ -8,7 +8,7 @@ use native.Mathlib.Omega.{arith}
 use borrow.Author.Tests.{eqb-true, eq-eqb, leb-true, le-leb}
 use lib.Dec.{leb}
 use lib.ListN.{length}
-use Rattle.octets.specs.Fields.{size, field_of}
+use Rattle.octets.specs.Fields.{field_of}
 use Rattle.rules.specs.Lists.{every, ascending}
 use Rattle.rules.specs.Layout.{Version, mark_field, version_field, places_in_header, zero_in_header, header_fields, header_size, cell_size, places_per_cell, table_mark, version_number, most_cells}
 use Rattle.rules.specs.Table.{Cell, legal_cell, cell_count, cell_runs, identity_at, table_marked, legal_table}

@@ -1,6 +1,6 @@
 -- What is made of each element of a list: of a list with one element replaced, of a part, of lists joined.
 -- By the list, one element at a time.
-use Prim.Native.Nat.{ℕ, zero, suc, ◌+◌, ◌<◌}
+use Prim.Native.Nat.{ℕ, zero, suc, ◌<◌}
 use lib.ListN.{length, get_or, take, drop, set}
 use mathlib.Core.List.{List, [], ◌∷◌, ◌++◌, map, flat_map, append_assoc, map-append}
 use mathlib.Core.Path.{◌≡◌, refl, ap}

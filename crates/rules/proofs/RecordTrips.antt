@@ -3,7 +3,7 @@
 use mathlib.Core.Path.{◌≡◌, sym, ◌∙◌}
 use mathlib.Core.Bool.{Bool, true, not, ◌&&◌, ◌||◌}
 use mathlib.Core.List.{List, [], append-nil}
-use Prim.Native.Nat.{ℕ, zero, ◌+◌, ◌*◌, ◌^◌, ◌≤◌, ◌<◌}
+use Prim.Native.Nat.{ℕ, ◌+◌, ◌*◌, ◌^◌, ◌≤◌, ◌<◌}
 use native.Mathlib.Omega.{arith}
 use lib.Dec.{eqb, ltb, leb}
 use lib.ListN.{length, get_or, length-append}
@@ -66,7 +66,7 @@ writing_accepted q items room e =
 
 pub accepted_writing : (q : Request) (items : List ℕ) (room : ℕ) → AcceptedWriting q items room → write_verdict q items room ≡ Accepted
 accepted_writing q items room a =
-    rw (write_chain q items room, le-leb _ _ a.few, a.request, le-leb (record_size + item_size current * length items) room a.fits_in)
+    rw (write_chain q items room, le-leb _ _ a.few, a.request, le-leb (record_size + item_size current * length items) room a.fits_in_lem)
 
 -- ---- written, then read
 

@@ -1,4 +1,6 @@
 // Document 01's types. What they mean, and every rule about them, stands in specs/.
+#![tactic(auto)]
+
 ghost use Rattle.std.specs.Prelude.{◌≡◌, ◌+◌, ◌<◌, ltb};
 ghost use Rattle.rules.specs.Layout.{cell_end};
 ghost use Rattle.rules.specs.Identity.{identity_number, identity_answer, plmn_of, part_of, cell_item, tracking_item};

@@ -1,4 +1,6 @@
 // Texts that come in segments (document 02, 1/13): segment k of a text handed back out of the caller's own bytes, and a list of segments packed.
+#![tactic(auto)]
+
 pub mod pack;
 pub mod read;
 

@@ -1,4 +1,6 @@
 // What a Write-Replace comes to before any cell is looked at: whether it starts anything, and the place that it makes.
+#![tactic(auto)]
+
 ghost use Rattle.std.specs.Prelude.{◌≡◌};
 ghost use Rattle.rules.specs.Layout.{current};
 ghost use Rattle.rules.specs.Table.{place_bytes};

@@ -1,4 +1,6 @@
 // A table of an older version, which is version 1, into the current layout (document 02, 3/13): judged by its own version's rules, then every cell widened into a second buffer.
+#![tactic(auto)]
+
 mod judge;
 mod wide;
 

@@ -1,4 +1,6 @@
 // The judge of a table: each rule of document 01, "The table", is tested where the bytes stand, in one pass.
+#![tactic(auto)]
+
 ghost use Rattle.std.specs.Prelude.{◌≡◌, ◌+◌, ◌*◌, ◌≤◌, length, drop};
 ghost use Rattle.octets.specs.Numbers.{be};
 ghost use Rattle.octets.specs.Runs.{gets, pieces};

@@ -1,5 +1,7 @@
 // PWS CANCEL REQUEST and the two responses (document 02, 5/13 and 6/13): as trees and formats, their refusals and what they say in specs/; here what each
 // element tells. Contents are lent: each reader takes all of its bytes, and nothing else.
+#![tactic(auto)]
+
 pub mod form;
 pub mod list;
 

@@ -1,5 +1,7 @@
 // A PWS CANCEL REQUEST taken straight from the wire (document 02, 5/13): the message is judged, and then the record is written, each cell out of the
 // message's own bytes.
+#![tactic(auto)]
+
 ghost use Rattle.std.specs.Prelude.{◌≡◌, false, ◌+◌, ◌*◌, ◌≤◌, length};
 ghost use mathlib.Core.List.{flat_map};
 ghost use Rattle.std.proofs.lemmas.List.Edits.{sets};

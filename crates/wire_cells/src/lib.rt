@@ -1,4 +1,6 @@
 // The list of cells of a message that was judged: how many there are, and each of them, out of the message's own bytes.
+#![tactic(auto)]
+
 ghost use Rattle.std.specs.Prelude.{◌≡◌, [], length};
 ghost use Rattle.formats.specs.Format.{found};
 ghost use Rattle.formats.specs.Summary.{summed};

@@ -1,6 +1,8 @@
 // Whether bytes are a PWS CANCEL REQUEST that can be taken (13 to 16): one pass over it judges it and remembers what it says and where its list of cells
 // lies, which may be anywhere among its elements. Responses have a judge of their own, since one with two callers is made a call and cancels read slowly:
 // the frame, what was seen and all laws here are of any message, and serve both.
+#![tactic(auto)]
+
 pub mod framing;
 
 ghost use Rattle.std.specs.Prelude.{◌≡◌, ◌≤◌, length};

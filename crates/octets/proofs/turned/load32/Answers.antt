@@ -1,0 +1,12 @@
+-- `load32` returns the number that the four bytes at the index say, least significant first.
+-- Two loads of half the width, the second behind the first, are one: `le-run`.
+use Prim.Native.Nat.{◌+◌}
+use mathlib.Core.Path.{refl}
+use native.Mathlib.Omega.{arith}
+use Rattle.octets.proofs.TurnedLaws.{le-run}
+use Rattle.octets.proofs.turned.load32.Goals as goal
+
+pub returns : goal.returns
+returns c =
+    let a = c.args in
+    omega (arith, le-run 2 2 a.s.now a.at (a.at + 2) refl)
