@@ -1,6 +1,7 @@
 -- `places_legal` says whether the four places of a cell are legal.
 -- The invariant, `PlacesLeft`, speaks of the places still to come and of the last three texts.
-use mathlib.Core.Path.{sym, ◌∙◌}
+use mathlib.Core.Bool.{not}
+use mathlib.Core.Path.{sym, ◌∙◌, ap}
 use native.Mathlib.Omega.{arith}
 use Rattle.table_judge.proofs.PlacesLaws.{places-start, places-free, places-wrong, places_on, places-end}
 use Rattle.table_judge.proofs.places_legal.Goals as goal
@@ -18,11 +19,11 @@ returns-then-get8-eq0 c =
 
 pub returns-then-not-live_legal-text : goal.returns-then-not-live_legal-text
 returns-then-not-live_legal-text c =
-    sym (places-wrong c.loop-left.invariant c.loop-left-test.true _ c.get8.ensures c.if-get8-eq0.false _ c.get32-text.ensures _ c.live_legal.ensures c.if-not-live_legal-text.true)
+    sym (places-wrong c.loop-left.invariant c.loop-left-test.true _ c.get8.ensures c.if-get8-eq0.false _ c.get32-text.ensures _ c.live_legal.ensures (ap not c.if-not-live_legal-text.true))
 
 pub loop-left-preserved : goal.loop-left-preserved
 loop-left-preserved c =
-    places_on c.loop-left.invariant c.loop-left-test.true _ c.get8.ensures c.if-get8-eq0.false _ c.get32-text.ensures _ c.live_legal.ensures c.if-not-live_legal-text.false
+    places_on c.loop-left.invariant c.loop-left-test.true _ c.get8.ensures c.if-get8-eq0.false _ c.get32-text.ensures _ c.live_legal.ensures (ap not c.if-not-live_legal-text.false)
 
 pub returns : goal.returns
 returns c = sym (places-end c.loop-left.invariant c.loop-left-test.false)
