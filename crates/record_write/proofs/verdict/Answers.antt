@@ -6,9 +6,10 @@ use Rattle.rules.specs.Refusals.{request_verdict}
 use Rattle.record_judge.proofs.ToldLaws.{told-verdict}
 use Rattle.record_write.proofs.WriteLaws.{many-refused, request-refused, room-refused, writing_allowed}
 use Rattle.record_write.proofs.verdict.Goals as goal
+use Rattle.record_write.proofs.verdict.Goals.{After-judged-judgement}
 
 -- what the judge said is the verdict of the request
-said : (j : goal.After-judged-judgement) → j.judged-judgement.result ≡ request_verdict (longest_period current) j.args.request j.args.items.now
+said : (j : After-judged-judgement) → j.judged-judgement.result ≡ request_verdict (longest_period current) j.args.request j.args.items.now
 said j =
     j.judged-judgement.ensures
     ∙ told-verdict (longest_period current) j.args.request j.args.items.now
@@ -25,9 +26,9 @@ returns-in-Refused c =
 pub returns-then-room-n : goal.returns-then-room-n
 returns-then-room-n c =
     let judged = said (goal.at.returns-then-room-n c).After-judged-judgement in
-    room-refused _ c.args.items.now _ c.if-n-gt-MOST_ITEMS.false judged c.in-Accepted.is c.if-room-n.true
+    room-refused _ c.args.items.now _ c.if-n-gt-MOST_ITEMS.false judged c.in_default.is c.if-room-n.true
 
 pub returns : goal.returns
 returns c =
     let judged = said (goal.at.returns c).After-judged-judgement in
-    writing_allowed _ c.args.items.now _ c.if-n-gt-MOST_ITEMS.false judged c.in-Accepted.is c.if-room-n.false
+    writing_allowed _ c.args.items.now _ c.if-n-gt-MOST_ITEMS.false judged c.in_default.is c.if-room-n.false

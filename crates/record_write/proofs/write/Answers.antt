@@ -6,9 +6,10 @@ use lib.Seq.{length-sets}
 use Rattle.rules.proofs.RecordTrips.{AcceptedWriting}
 use Rattle.record_write.proofs.WriteLaws.{allowed_writing, record_put, nothing_put}
 use Rattle.record_write.proofs.write.Goals as goal
+use Rattle.record_write.proofs.write.Goals.{In-Accepted}
 
 -- what the tests have found of a request that was not refused
-tested : (c : goal.In-Accepted) → AcceptedWriting c.args.request c.args.items.now (length c.args.buffer.now)
+tested : (c : In-Accepted) → AcceptedWriting c.args.request c.args.items.now (length c.args.buffer.now)
 tested c = allowed_writing c.args.request c.args.items.now c.args.buffer.now c.verdict.ensures c.in-Accepted.is
 
 pub overflow_cast-items : goal.overflow_cast-items
