@@ -29,4 +29,4 @@ returns-in-Listed c =
 pub returns-in-Nothing : goal.returns-in-Nothing
 returns-in-Nothing c =
     let e = sym (ap lies_by c.in-Nothing.is) ∙ c.locate.ensures in
-    (hand_nothing _ _ (λ i. (c.shared_slice_known-2-1.given i).fits) _ c.enum_told-in-Nothing-1.given.0.0 e, lent-first _ _ _ _ ∙ ap (lent_from _ _) e)
+    (hand_nothing _ _ (λ i. (c.shared_slice_known-2-1.given i).fits) _ _ e, lent-first _ _ _ _ ∙ ap (lent_from _ _) e)

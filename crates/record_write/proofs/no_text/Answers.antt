@@ -2,12 +2,8 @@
 -- The tests are the definition's, grouped the other way.
 use mathlib.Core.Bool.{and_assoc, and-true}
 use Rattle.rules.specs.Lists.{every, zeros}
-use Rattle.record_write.proofs.no_text.Statement.{statement}
-use Rattle.record_write.proofs.no_text.Tie as tie
+use Rattle.record_write.proofs.no_text.Goals as goal
 
-returns : tie.Need-returns
+pub returns : goal.returns
 unfolding zeros every
 returns c = simp (and_assoc, and-true)
-
-pub no-text-spec : {M : Type 1} → statement M
-no-text-spec = tie.close (tie.spec returns)
