@@ -17,17 +17,22 @@ use std::io::{Read, Write};
 
 // The bytes that are read at once, and those that are written at once, at most.
 const INPUT: usize = 65536;
+
 const OUT: usize = 131072;
 
 // ---- what went wrong outside
 
 // The program ends with status 0 all the same: a line on standard error says it.
 fn cannot_write(rt: HostRuntime) {
-    let _ = rt.stderr().write_all(b"report: standard output cannot be written\n");
+    let _ = rt
+        .stderr()
+        .write_all(b"report: standard output cannot be written\n");
 }
 
 fn cannot_read(rt: HostRuntime) {
-    let _ = rt.stderr().write_all(b"report: standard input cannot be read\n");
+    let _ = rt
+        .stderr()
+        .write_all(b"report: standard input cannot be read\n");
 }
 
 // ---- writing and reading
@@ -92,7 +97,14 @@ fn read_on(rt: HostRuntime, s: Stand, input: &mut [u8]) -> Stand
 // ---- turn after turn
 
 // One turn, and what it asks for: its text is written before a read may have to wait.
-fn step(rt: HostRuntime, s: Stand, input: &mut [u8], table: &mut [u8], answer: &mut [u8], out: &mut [u8]) -> Stand
+fn step(
+    rt: HostRuntime,
+    s: Stand,
+    input: &mut [u8],
+    table: &mut [u8],
+    answer: &mut [u8],
+    out: &mut [u8],
+) -> Stand
     requires standing { Standing s (length input.old) (length table.old) (length answer.old) (length out.old) }
     requires most_cells_in_bounds { heads_end most_cells ≤ length input.old }
     ensures { result.stops ≡ false → Standing result (length input.new) (length table.new) (length answer.new) (length out.new) }
