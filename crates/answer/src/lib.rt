@@ -18,7 +18,7 @@ use rules::layout::{
 use rules::{Broadcasts, CellIdentity};
 
 // What a row says.
-#[derive(Drop)]
+#[derive(Clone, Copy)]
 pub struct Row {
     pub identity: CellIdentity,
     pub count: Broadcasts,

@@ -24,7 +24,7 @@ pub struct Terms {
     pub requested: Broadcasts,
 }
 
-pub fn is_live_lem(cell: &[u8], k: usize) -> bool
+pub fn is_live(cell: &[u8], k: usize) -> bool
     requires formed { Formed cell.now }
     requires k_lt_places_per_cell { k < places_per_cell }
     ensures { result ≡ ltb k (length (live_places cell.now)) }
@@ -86,7 +86,7 @@ pub fn seek(cell: &[u8], wanted: u32) -> Sought
 {
     let mut k = 0;
     while k < PLACES {
-        if !is_live_lem(cell, k) {
+        if !is_live(cell, k) {
             return Sought {
                 found: false,
                 at: k,

@@ -6,7 +6,7 @@ ghost use Rattle.in_cell.specs.Stop.{stop_text};
 
 use crate::rows::report;
 use cell_change::{drop_place, free_all};
-use cell_read::{is_live_lem, seek, sent};
+use cell_read::{is_live, seek, sent};
 use rules::{Broadcasts, Request};
 
 pub fn restart_in_cell(cell: &mut [u8], out: &mut [u8]) -> usize
@@ -23,7 +23,7 @@ pub fn failure_in_cell(cell: &mut [u8], out: &mut [u8]) -> usize
     requires { Ready cell.old out.old 1 }
     ensures { Stepped (failure (live_places cell.old)) cell.old out.old cell.new out.new 1 result }
 {
-    if is_live_lem(cell, 0) {
+    if is_live(cell, 0) {
         report(cell, Broadcasts(0), out);
         free_all(cell);
         return 1;

@@ -9,7 +9,7 @@ ghost use Rattle.in_cell.specs.Second.{going_on, ToAir, Aired, AllLater};
 
 use answer::put_row;
 use cell_change::{Counts, drop_place, set_counts, set_wait};
-use cell_read::{content, identity, is_live_lem, sent, terms_of, wait};
+use cell_read::{content, identity, is_live, sent, terms_of, wait};
 use rules::layout::{MOST_SENT, PLACES, ROW};
 use rules::{Broadcasts, Seconds};
 
@@ -40,7 +40,7 @@ fn all_later(cell: &mut [u8], out: &mut [u8]) -> Pass
     let mut gone: usize = 0;
     let mut k: usize = 0;
     'places: while k < PLACES {
-        if !is_live_lem(cell, k) {
+        if !is_live(cell, k) {
             break 'places;
         }
         let here = k;
@@ -50,7 +50,7 @@ fn all_later(cell: &mut [u8], out: &mut [u8]) -> Pass
             gone += air(cell, here, out, rows);
             rows += 1;
         } else {
-            set_wait(cell, here, one_less_lem(left));
+            set_wait(cell, here, one_less(left));
         }
     }
     Pass { rows, gone }
@@ -63,8 +63,8 @@ fn air(cell: &mut [u8], k: usize, out: &mut [u8], n: usize) -> usize
 {
     let terms = terms_of(cell, k);
     let before = sent(cell, k);
-    let sent = one_more_lem(before);
-    let wait = one_less_lem(terms.period);
+    let sent = one_more(before);
+    let wait = one_less(terms.period);
     let identity = identity(cell);
     let content = content(cell, k);
     set_counts(cell, k, Counts { sent, wait });
@@ -79,7 +79,7 @@ fn close_up(cell: &mut [u8])
 {
     let mut k: usize = 0;
     'places: while k < PLACES {
-        if !is_live_lem(cell, k) {
+        if !is_live(cell, k) {
             break 'places;
         }
         if ended(cell, k) {
@@ -105,7 +105,7 @@ fn all_sent(requested: Broadcasts, sent: Broadcasts) -> bool
 }
 
 // "sent goes up by one but stays at 65,535"
-fn one_more_lem(sent: Broadcasts) -> Broadcasts
+fn one_more(sent: Broadcasts) -> Broadcasts
     ensures { result.0 ≡ (one_more sent).0 }
 {
     if sent.0 < MOST_SENT {
@@ -115,7 +115,7 @@ fn one_more_lem(sent: Broadcasts) -> Broadcasts
     }
 }
 
-fn one_less_lem(seconds: Seconds) -> Seconds
+fn one_less(seconds: Seconds) -> Seconds
     ensures { result.0 ≡ (one_less seconds).0 }
 {
     if 0 < seconds.0 {

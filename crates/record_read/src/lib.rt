@@ -62,7 +62,7 @@ fn longest_asked(req: &[u8]) -> Seconds
 // ---- 5, 6 and 7, asked of the bytes
 
 // "identifier to SIB" are zero: 15 bytes, in two reads that share one.
-fn no_text_lem(req: &[u8]) -> bool
+fn no_text(req: &[u8]) -> bool
     requires { record_size ≤ length req.now }
     ensures { result ≡ zeros (identifier_to_sib (request_of req.now)) }
 {
@@ -93,7 +93,7 @@ fn fields_judged(req: &[u8], n: usize) -> Verdict
         fields.area,
         fields.period,
         fields.sib,
-        no_text_lem(req),
+        no_text(req),
         cancel_zeros(req),
         n,
         any,

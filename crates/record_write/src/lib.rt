@@ -25,7 +25,7 @@ use rules::{Refusal, Request, Seconds, Verdict, Writing};
 // ---- whether it is written: document 01, "The request record"
 
 // "identifier to SIB" are zero.
-fn no_text_lem(request: Request) -> bool
+fn no_text(request: Request) -> bool
     ensures { result ≡ zeros (identifier_to_sib request) }
 {
     (request.identifier == 0)
@@ -72,7 +72,7 @@ fn verdict(request: Request, items: &[u64], room: usize) -> Verdict
         request.area,
         request.period,
         request.sib,
-        no_text_lem(request),
+        no_text(request),
         cancel_zeros(request),
         n,
         any,

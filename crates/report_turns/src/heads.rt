@@ -34,7 +34,7 @@ fn cells_there(held: &[u8]) -> usize
     n
 }
 
-fn no_cells_lem(held: &[u8]) -> bool
+fn no_cells(held: &[u8]) -> bool
     ensures { result ≡ no_cells held.now }
 {
     if held.len() < COUNT {
@@ -100,7 +100,7 @@ pub fn open_table(held: &[u8], ended: bool, table: &mut [u8], out: &mut [u8], at
 {
     let n = cells_there(held);
     if n == 0 {
-        return without_heads(ended | no_cells_lem(held), out, at);
+        return without_heads(ended | no_cells(held), out, at);
     }
     let end = COUNT + HEAD * n;
     build_table(&held[COUNT..end], n, table, out, at)

@@ -14,15 +14,15 @@ use kind::{CANCEL_ALL, NOTIFIED};
 
 // "A count of seconds never stands where a count of broadcasts is meant": each has a type of its own.
 #[repr(C)]
-#[derive(Drop)]
+#[derive(Clone, Copy)]
 pub struct Seconds(pub u32);
 
 #[repr(C)]
-#[derive(Drop)]
+#[derive(Clone, Copy)]
 pub struct Broadcasts(pub u16);
 
 // A live place of a cell.
-#[derive(Drop)]
+#[derive(Clone, Copy)]
 pub struct Place {
     pub identifier: u16,
     pub serial: u16,
@@ -36,7 +36,7 @@ pub struct Place {
 
 // A request without its items: what the reader returns of a record, and what the writer takes.
 #[repr(C)]
-#[derive(Drop)]
+#[derive(Clone, Copy)]
 pub struct Request {
     pub kind: u8,
     pub flags: u8,
@@ -80,7 +80,7 @@ impl Request {
 }
 
 // The numbered refusals, in the order of their numbers: document 01's nine, then document 02's: those of a list of segments, and those of a message and of an answer on the wire.
-#[derive(Drop)]
+#[derive(Clone, Copy)]
 pub enum Refusal {
     TableMark,
     TableWrong,
@@ -128,14 +128,14 @@ impl Refusal {
 }
 
 // What a judge says.
-#[derive(Drop)]
+#[derive(Clone, Copy)]
 pub enum Verdict {
     Accepted,
     Refused(Refusal),
 }
 
 // What whoever fills a buffer answers: the length written, or why nothing was.
-#[derive(Drop)]
+#[derive(Clone, Copy)]
 pub enum Writing {
     Written(usize),
     Unwritten(Refusal),
@@ -162,18 +162,18 @@ impl Writing {
 }
 
 // What the reader answers: the fields and the count of items, or why there are none.
-#[derive(Drop)]
+#[derive(Clone, Copy)]
 pub enum Reading {
     Fields(Request, usize),
     Unread(Refusal),
 }
 
 // NR CGI: a 24-bit PLMN, then 36 bits.
-#[derive(Drop)]
+#[derive(Clone, Copy)]
 pub struct CellIdentity(pub u64);
 
 // The answer to a PLMN and a part that are to make an identity.
-#[derive(Drop)]
+#[derive(Clone, Copy)]
 pub enum MadeIdentity {
     Identity(CellIdentity),
     TooLarge,

@@ -8,7 +8,7 @@ use octets::get16;
 use rules::Refusal;
 
 // Where a segment lies, or why there is none.
-#[derive(Drop)]
+#[derive(Clone, Copy)]
 pub enum Part {
     // The first buffer, whole: its length.
     First(usize),
@@ -18,7 +18,7 @@ pub enum Part {
 }
 
 // What one pass over a list finds: how many segments are whole, where the last of them ends, and where the k-th lies if it is among them.
-#[derive(Drop)]
+#[derive(Clone, Copy)]
 struct Pass {
     count: usize,
     end: usize,

@@ -12,16 +12,16 @@ use Rattle.record_judge.proofs.judged.Tie as tie
 -- ---- the stages, each with what the test before it has found
 
 abbrev KindFine : Type 0
-KindFine = tie.Else1
+KindFine = tie.Else-not-kind_allows
 
 abbrev AreaFine : Type 0
-AreaFine = tie.Else2
+AreaFine = tie.Else-not-area_fits
 
 abbrev TextFine : Type 0
-TextFine = tie.Else3
+TextFine = tie.Else-not-text_within
 
 abbrev ItemsFine : Type 0
-ItemsFine = tie.Else4
+ItemsFine = tie.Else-not-items_small
 
 abbrev kind_at : AreaFine → KindFine
 kind_at c = c.before.before
@@ -36,75 +36,75 @@ abbrev called : KindFine → tie.Start
 called c = c.before.before
 
 kind_fine : (c : KindFine) → let a = (called c).args in kind_told (kind_of a.kind) a.flags a.area a.textless a.omitted ≡ true
-kind_fine c = sym c.before.kind_allows_lem.ensures ∙ not-false _ c.if1.false
+kind_fine c = sym c.before.kind_allows.ensures ∙ c.if-not-kind_allows.false
 
 area_fine : (c : AreaFine) → let a = (called (kind_at c)).args in area_told a.area a.n ≡ true
-area_fine c = sym c.before.area_fits_lem.ensures ∙ not-false _ c.if2.false
+area_fine c = sym c.before.area_fits.ensures ∙ c.if-not-area_fits.false
 
 text_fine : (c : TextFine) → let a = (called (kind_at (area-at c))).args in text_told a.kind a.period a.sib a.longest ≡ true
-text_fine c = sym c.before.text-within.ensures ∙ not-false _ c.if3.false
+text_fine c = sym c.before.text_within.ensures ∙ c.if-not-text_within.false
 
 items_fine : (c : ItemsFine) → let a = (called (kind_at (area-at (text_at c)))).args in items_told a.area a.n a.any ≡ true
-items_fine c = sym c.before.items-small.ensures ∙ not-false _ c.if4.false
+items_fine c = sym c.before.items_small.ensures ∙ c.if-not-items_small.false
 
 -- ---- the ways out
 
-kind-allows-requires : tie.Need-kind-allows-requires
+kind-allows-requires : tie.Need-kind_allows-requires
 kind-allows-requires c κs = search rules
 
-returns : tie.Need-returns
+returns : tie.Need-returns-then-not-kind_allows
 unfolding told_verdict
-returns c = rw (sym c.before.kind_allows_lem.ensures ∙ not-true _ c.if1.true)
+returns c = rw (sym c.before.kind_allows.ensures ∙ c.if-not-kind_allows.true)
 
-area-fits-requires : tie.Need-area-fits-requires
+area-fits-requires : tie.Need-area_fits-requires
 area-fits-requires c κs = search rules
 
-returns-2 : tie.Need-returns-2
+returns-2 : tie.Need-returns-then-not-area_fits
 unfolding told_verdict
 returns-2 c =
     let kind : KindFine = c.before.before in
-    rw (kind_fine kind, sym c.before.area_fits_lem.ensures ∙ not-true _ c.if2.true)
+    rw (kind_fine kind, sym c.before.area_fits.ensures ∙ c.if-not-area_fits.true)
 
-text-within-requires : tie.Need-text-within-requires
+text-within-requires : tie.Need-text_within-requires
 text-within-requires c κs = search rules
 
-returns-3 : tie.Need-returns-3
+returns-3 : tie.Need-returns-then-not-text_within
 unfolding told_verdict
 returns-3 c =
     let area : AreaFine = c.before.before in
-    rw (kind_fine (kind_at area), area_fine area, sym c.before.text-within.ensures ∙ not-true _ c.if3.true)
+    rw (kind_fine (kind_at area), area_fine area, sym c.before.text_within.ensures ∙ c.if-not-text_within.true)
 
-items-small-requires : tie.Need-items-small-requires
+items-small-requires : tie.Need-items_small-requires
 items-small-requires c κs = search rules
 
-returns-4 : tie.Need-returns-4
+returns-4 : tie.Need-returns-then-not-items_small
 unfolding told_verdict
 returns-4 c =
     let text : TextFine = c.before.before in
     let area = area-at text in
-    rw (kind_fine (kind_at area), area_fine area, text_fine text, sym c.before.items-small.ensures ∙ not-true _ c.if4.true)
+    rw (kind_fine (kind_at area), area_fine area, text_fine text, sym c.before.items_small.ensures ∙ c.if-not-items_small.true)
 
-cancels-nothing-requires : tie.Need-cancels-nothing-requires
+cancels-nothing-requires : tie.Need-cancels_nothing-requires
 cancels-nothing-requires c κs = search rules
 
-returns-5 : tie.Need-returns-5
+returns-5 : tie.Need-returns-then-cancels_nothing
 unfolding told_verdict
 returns-5 c =
     let items : ItemsFine = c.before.before in
     let text = text_at items in
     let area = area-at text in
-    rw (kind_fine (kind_at area), area_fine area, text_fine text, items_fine items, ← c.before.cancels-nothing.ensures, c.if5.true)
+    rw (kind_fine (kind_at area), area_fine area, text_fine text, items_fine items, ← c.before.cancels_nothing.ensures, c.if-cancels_nothing.true)
 
-returns-6 : tie.Need-returns-6
+returns-6 : tie.Need-returns
 unfolding told_verdict
 returns-6 c =
     let items : ItemsFine = c.before.before in
     let text = text_at items in
     let area = area-at text in
-    rw (kind_fine (kind_at area), area_fine area, text_fine text, items_fine items, ← c.before.cancels-nothing.ensures, c.if5.false)
+    rw (kind_fine (kind_at area), area_fine area, text_fine text, items_fine items, ← c.before.cancels_nothing.ensures, c.if-cancels_nothing.false)
 
-pub judged-spec : {M : Type 1} → statement M
-judged-spec =
+pub judged_spec : {M : Type 1} → statement M
+judged_spec =
     tie.close
     (tie.spec
     kind-allows-requires

@@ -43,15 +43,15 @@ returns : tie.Need-returns
 returns c =
     let four : Four = c.before.before.before.before.before in
     let kind = four.before.before.before.get8.ensures in
-    let flags = four.before.before.get82.ensures in
-    let area = four.before.get83.ensures in
-    let serial = c.before.before.before.before.get162.ensures in
+    let flags = four.before.before.get8-2.ensures in
+    let area = four.before.get8-3.ensures in
+    let serial = c.before.before.before.before.get16-2.ensures in
     let content = c.before.before.before.get32.ensures in
-    let period = c.before.before.get322.ensures in
-    request-read (called four).args.req.now (called four).requires kind flags area four.get16.ensures serial content period c.before.get163.ensures c.get84.ensures
+    let period = c.before.before.get32-2.ensures in
+    request-read (called four).args.req.now (called four).requires kind flags area four.get16.ensures serial content period c.before.get16-3.ensures c.get8-4.ensures
 
-pub request-spec : {M : Type 1} → statement M
-request-spec =
+pub request_spec : {M : Type 1} → statement M
+request_spec =
     tie.close
     (tie.spec
     get8-requires

@@ -21,7 +21,7 @@ put8-requires-2 c κs = search rules
 put16-requires-2 : tie.Need-put16-requires-2
 put16-requires-2 c κs = search rules
 
-same_length : tie.Need-same-length
+same_length : tie.Need-shape_of-buffer
 same_length c = search rules
 
 -- the stages: the call, and two fields stored
@@ -43,10 +43,10 @@ returns c =
     let requested = sib.before.before.before.before in
     let a = (called sib).args in
     let q = a.request in
-    rw (count.put162.ensures, zero.put82.ensures, sib.put8.ensures, requested.put16.ensures)
+    rw (count.put16-2.ensures, zero.put8-2.ensures, sib.put8.ensures, requested.put16.ensures)
     (puts_bytes_of a.buffer.now (offset record_fields 9) (drop 9 record_fields) (q.requested.0 ∷ q.sib ∷ 0 ∷ a.n ∷ []))
 
-pub put-counts-spec : {M : Type 1} → statement M
-put-counts-spec =
+pub put_counts_spec : {M : Type 1} → statement M
+put_counts_spec =
     tie.close
     (tie.spec put16-requires put8-requires put8-requires-2 put16-requires-2 same_length returns)

@@ -18,7 +18,7 @@ put8-requires-2 c κs = search rules
 put8-requires-3 : tie.Need-put8-requires-3
 put8-requires-3 c κs = search rules
 
-same_length : tie.Need-same-length
+same_length : tie.Need-shape_of-buffer
 same_length c = search rules
 
 -- the stages: the call, and two fields stored
@@ -26,7 +26,7 @@ abbrev Called : Type 0
 Called = tie.Start
 
 abbrev Second : Type 0
-Second = tie.After-put82
+Second = tie.After-put8-2
 
 abbrev called : Second → Called
 called c = c.before.before.before.before.before.before.before
@@ -39,9 +39,9 @@ returns c =
     let kind = flags.before.before.before.before in
     let a = (called flags).args in
     let q = a.request in
-    rw (area.put83.ensures, flags.put82.ensures, kind.put8.ensures)
+    rw (area.put8-3.ensures, flags.put8-2.ensures, kind.put8.ensures)
     (puts_bytes_of a.buffer.now (offset record_fields 2) (drop 2 record_fields) (q.kind ∷ q.flags ∷ q.area ∷ []))
 
-pub put-kind-spec : {M : Type 1} → statement M
-put-kind-spec =
+pub put_kind_spec : {M : Type 1} → statement M
+put_kind_spec =
     tie.close (tie.spec put8-requires put8-requires-2 put8-requires-3 same_length returns)

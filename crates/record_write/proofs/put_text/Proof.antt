@@ -21,7 +21,7 @@ put32-requires c κs = search rules
 put32-requires-2 : tie.Need-put32-requires-2
 put32-requires-2 c κs = search rules
 
-same_length : tie.Need-same-length
+same_length : tie.Need-shape_of-buffer
 same_length c = search rules
 
 -- the stages: the call, and two fields stored
@@ -29,7 +29,7 @@ abbrev Called : Type 0
 Called = tie.Start
 
 abbrev Second : Type 0
-Second = tie.After-put162
+Second = tie.After-put16-2
 
 abbrev called : Second → Called
 called c = c.before.before.before.before.before.before.before
@@ -43,10 +43,10 @@ returns c =
     let identifier = serial.before.before.before.before in
     let a = (called serial).args in
     let q = a.request in
-    rw (period.put322.ensures, content.put32.ensures, serial.put162.ensures, identifier.put16.ensures)
+    rw (period.put32-2.ensures, content.put32.ensures, serial.put16-2.ensures, identifier.put16.ensures)
     (puts_bytes_of a.buffer.now (offset record_fields 5) (drop 5 record_fields) (q.identifier ∷ q.serial ∷ q.content ∷ q.period.0 ∷ []))
 
-pub put-text-spec : {M : Type 1} → statement M
-put-text-spec =
+pub put_text_spec : {M : Type 1} → statement M
+put_text_spec =
     tie.close
     (tie.spec put16-requires put16-requires-2 put32-requires put32-requires-2 same_length returns)

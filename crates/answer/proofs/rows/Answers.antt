@@ -1,0 +1,7 @@
+-- `rows` reads the count of rows that an answer's head says.
+use mathlib.Core.Path.{◌∙◌}
+use Rattle.answer.proofs.HeadLaws.{rows-read}
+use Rattle.answer.proofs.rows.Goals as goal
+
+pub returns : goal.returns
+returns c = c.get16.ensures ∙ rows-read _ c.requires

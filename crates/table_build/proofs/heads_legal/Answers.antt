@@ -1,0 +1,28 @@
+-- `heads_legal` says whether heads may be built on.
+-- Each way out is the first test of `legal_heads` that fails; the last call answers the rest.
+use mathlib.Core.Path.{ap}
+use mathlib.Core.Bool.{◌&&◌, not}
+use borrow.Author.Tests.{eq-eqb, ne_eqb, not-true, not-false}
+use lib.Dec.{leb}
+use Rattle.rules.specs.Layout.{most_cells}
+use Rattle.rules.specs.Refusals.{head_count, legal_heads}
+use Rattle.table_judge.specs.Judge.{legal_runs}
+use Rattle.table_build.proofs.heads_legal.Goals as goal
+
+pub returns-then-heads-ne0 : goal.returns-then-heads-ne0
+unfolding legal_heads
+returns-then-heads-ne0 c = rw (ne_eqb _ 0 c.if-heads-ne0.true)
+
+pub returns-then-not-count : goal.returns-then-not-count
+unfolding legal_heads
+returns-then-not-count c =
+    let heads = c.args.heads.now in
+    let few = not-true (leb 1 (head_count heads) && leb (head_count heads) most_cells) (ap not c.if-not-count.true) in
+    rw (eq-eqb _ 0 c.if-heads-ne0.false, few)
+
+pub returns : goal.returns
+unfolding legal_heads legal_runs
+returns c =
+    let heads = c.args.heads.now in
+    let few = not-false (leb 1 (head_count heads) && leb (head_count heads) most_cells) (ap not c.if-not-count.false) in
+    rw (eq-eqb _ 0 c.if-heads-ne0.false, few, c.heads_in_order.ensures)

@@ -1,0 +1,7 @@
+-- `lower24` returns the number that the last three of four bytes say.
+-- The number that all four say, taken apart: `lower_three`.
+use Rattle.table_judge.proofs.ReadLaws.{lower_three}
+use Rattle.table_judge.proofs.lower24.Goals as goal
+
+pub returns : goal.returns
+returns c = lower_three _ (λ i. (c.shared_slice_known-1.given i).fits) c.args.at c.get32.ensures

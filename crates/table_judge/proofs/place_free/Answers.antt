@@ -1,0 +1,7 @@
+-- `place_free` says whether the 24 bytes from an index on are zero.
+-- Three wide reads are zero exactly if their bytes are: `free-wide`.
+use Rattle.table_judge.proofs.ReadLaws.{free-wide}
+use Rattle.table_judge.proofs.place_free.Goals as goal
+
+pub returns : goal.returns
+returns c = rw (c.get64.ensures, c.get64-2.ensures, c.get64-3.ensures) (free-wide _ _)
