@@ -2,7 +2,6 @@
 -- The invariant, `RowsLeft`, speaks of the rows still to come and of the least NR CGI that may follow.
 use mathlib.Core.Bool.{not}
 use mathlib.Core.Path.{ap}
-use Prim.Native.Nat.{◌-◌}
 use native.Mathlib.Omega.{arith}
 use Rattle.answer_judge.proofs.RowsLeftLaws.{rows_start, row_below, row_large, row-wrong, row_on, rows_end}
 use Rattle.answer_judge.proofs.rows_follow.Goals as goal

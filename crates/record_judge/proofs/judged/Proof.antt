@@ -2,7 +2,6 @@
 -- What each test found is put into the list of tests, in their order.
 use mathlib.Core.Bool.{true}
 use mathlib.Core.Path.{◌≡◌, sym, ◌∙◌}
-use borrow.Author.Tests.{not-true, not-false}
 use borrow.Author.Rules.{rules}
 use Rattle.rules.specs.Record.{kind_of}
 use Rattle.record_judge.specs.Told.{kind_told, area_told, text_told, items_told, told_verdict}

@@ -1,6 +1,5 @@
 -- `any_item` joins the items.
 -- The invariant, `StillToJoin`: all of them joined are those still to come joined to what was met so far; each turn meets one.
-use Prim.Native.Nat.{◌-◌}
 use mathlib.Core.Path.{refl, sym, ◌∙◌}
 use native.Mathlib.Omega.{arith}
 use Rattle.record_write.proofs.BitsLaws.{joined-more, joined_all}

@@ -1,6 +1,6 @@
 -- `put_items` stores the items behind the fields, and nothing else.
 -- The invariant, `StillToCome`: storing all of them into the buffer as it was is storing those that are left into it as it is; each turn stores two, and one may be left for the end.
-use Prim.Native.Nat.{◌+◌, ◌-◌}
+use Prim.Native.Nat.{◌+◌}
 use mathlib.Core.Path.{refl, sym, ◌∙◌}
 use native.Mathlib.Omega.{arith}
 use lib.Seq.{length-sets}

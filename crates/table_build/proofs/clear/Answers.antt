@@ -2,7 +2,6 @@
 -- The invariant, `Cleared`, has the first bytes zero; a turn clears one more, which is `fill_more`.
 use mathlib.Core.Path.{◌≡◌, refl, ◌∙◌}
 use mathlib.Core.List.{append-nil}
-use Prim.Native.Nat.{◌-◌}
 use native.Mathlib.Omega.{arith}
 use borrow.Author.Fill.{fill_more}
 use lib.ListN.{length, length-set}

@@ -1,6 +1,5 @@
 -- `lengths_fit` says whether the lengths add up to the bytes and none is too long.
 -- The invariant, `StillToFit`: all of them fit exactly if those still to come fit what is left.
-use Prim.Native.Nat.{◌-◌}
 use Rattle.segments.proofs.LengthsLaws.{fit-starts, fit-goes, fit_fails_long, fit_fails_many, fit-ends}
 use Rattle.segments.proofs.pack.lengths_fit.Goals as goal
 

@@ -28,9 +28,9 @@ use Rattle.pws.proofs.pws_pack.Reads as pack
 use Rattle.pws.proofs.pws_pack.Statement as pack-code
 use Rattle.pws.proofs.pws_read_cancel.Reads as cancel
 use Rattle.pws.proofs.pws_read_cancel.Statement as cancel-code
-use Rattle.pws.proofs.pws_write_response.Reads as write_response_lem
+use Rattle.pws.proofs.pws_write_response.Reads as write_response
 use Rattle.pws.proofs.pws_write_response.Statement as write_response-code
-use Rattle.pws.proofs.pws_read_response.Reads as read_response_lem
+use Rattle.pws.proofs.pws_read_response.Reads as read_response
 use Rattle.pws.proofs.pws_read_response.Statement as read_response-code
 
 -- a lent buffer, at any place in memory
@@ -48,8 +48,8 @@ pub record AsksNothing : Type 0 where
   pub segment_asks : (κs : Lfts 2) (args : _) → segment.Asked κs args
   pub pack_asks : (κs : Lfts 3) (args : _) → pack.Asked κs args
   pub cancel_asks : (κs : Lfts 2) (args : _) → cancel.Asked κs args
-  pub write_response_asks : (κs : Lfts 2) (args : _) → write_response_lem.Asked κs args
-  pub read_response_asks : (κs : Lfts 2) (args : _) → read_response_lem.Asked κs args
+  pub write_response_asks : (κs : Lfts 2) (args : _) → write_response.Asked κs args
+  pub read_response_asks : (κs : Lfts 2) (args : _) → read_response.Asked κs args
 
 -- the code comes back with what its contract says, at every model of the machine
 pub record CodeMeets : Type 2 where
@@ -95,10 +95,10 @@ pub record LearnsPromises : Type 0 where
       → cancel.Learnt κs (message, (buffer, tt)) m (message, (buffer', tt))
       → ReadCancelPromise message.now buffer.now m buffer'.now
   pub write_response-says : (κs : Lfts 2) (answer : Lent) (transaction : ℕ) (message message' : Lent) (d : PwsDone)
-      → write_response_lem.Learnt κs (answer, (transaction, (message, tt))) d (answer, (transaction, (message', tt)))
+      → write_response.Learnt κs (answer, (transaction, (message, tt))) d (answer, (transaction, (message', tt)))
       → WriteResponsePromise answer.now transaction message.now d message'.now
   pub read_response-says : (κs : Lfts 2) (bytes answer answer' : Lent) (m : PwsMessage)
-      → read_response_lem.Learnt κs (bytes, (answer, tt)) m (bytes, (answer', tt))
+      → read_response.Learnt κs (bytes, (answer, tt)) m (bytes, (answer', tt))
       → ReadResponsePromise bytes.now answer.now m answer'.now
 
 -- ---- THE CLAIM
@@ -121,5 +121,5 @@ pub record OneOutcome : Type 0 where
   pub segment_once : SettlesResult segment.Learnt
   pub pack_once : Settles {X = PwsDone × List ℕ} pack.Learnt (λ κs d exit. (d, exit.1.1.0.now))
   pub cancel_once : Settles {X = PwsMessage × List ℕ} cancel.Learnt (λ κs m exit. (m, exit.1.0.now))
-  pub write_response_once : Settles {X = PwsDone × List ℕ} write_response_lem.Learnt (λ κs d exit. (d, exit.1.1.0.now))
-  pub read_response_once : Settles {X = PwsMessage × List ℕ} read_response_lem.Learnt (λ κs m exit. (m, exit.1.0.now))
+  pub write_response_once : Settles {X = PwsDone × List ℕ} write_response.Learnt (λ κs d exit. (d, exit.1.1.0.now))
+  pub read_response_once : Settles {X = PwsMessage × List ℕ} read_response.Learnt (λ κs m exit. (m, exit.1.0.now))
