@@ -1,6 +1,6 @@
 include host/machine.mk
 
-.PHONY: run test ready host-programs host-test peer-test wire-peer tshark-there second-test install bench bench-quick bench-plot bench-program
+.PHONY: run test ready proved-report host-programs host-test peer-test wire-peer tshark-there second-test install bench bench-quick bench-plot bench-program
 
 # One story, the script beside what the program reports of it: make run SCRIPT=examples/one-yard.txt
 SCRIPT ?= examples/example.txt
@@ -14,12 +14,18 @@ target/second/debug/script: $(shell find second/src -type f) second/Cargo.toml
 	cargo build --quiet --offline --manifest-path second/Cargo.toml --target-dir target/second
 	@touch $@
 
-# What the proved parts are made of. Proving them all takes some minutes the first time.
-PROVED = crates.txt $(shell find crates -name '*.rt' -o -name '*.antt')
+# What the proved parts are made of, but for what rt leaves in each crate's out/. Proving them all takes long the first time.
+PROVED = crates.txt $(shell find crates -path 'crates/*/out' -prune -o \( -name '*.rt' -o -name '*.antt' \) -print)
 
+# rt run proves the program and runs it too: here on no input, since only the file is wanted.
 target/bin/report: $(PROVED)
-	rt check report
-	@touch $@
+	cd crates/report && rt run </dev/null >/dev/null
+	@$(MAKE) --no-print-directory proved-report
+
+# What rt has just proved and built, as it lies in the crate's out/. The gate takes what rt ci ran.
+proved-report:
+	@mkdir -p target/bin
+	cp crates/report/out/report target/bin/report
 
 target/emulated/report: target/bin/report
 	@mkdir -p $(@D)
@@ -115,8 +121,9 @@ install: target/staticlib/libpws.a
 	$(VERSIONED) host/pws.pc.in | install -m 644 /dev/stdin "$(INTO)/lib/pkgconfig/pws.pc"
 
 target/staticlib/libpws.a: $(PROVED)
-	rt staticlib pws
-	@touch $@
+	cd crates/pws_c && rt lib
+	@mkdir -p $(@D)
+	cp crates/pws_c/out/libpws_c.a $@
 
 # Times against the C++ engine written by hand and against second/ (docs/SPEED.md). PWS_REPORT=/path adds the report program.
 BENCH = target/bench/$(if $(TRIPLE),$(TRIPLE)/)release

@@ -32,10 +32,17 @@ built_by_cmake() {
         says_what_it_prints "$1/build/unit"
 }
 
+# The help has the line's command, which is its first two words: `rt all` of `rt all check`.
+knows_command() {
+    local words
+    read -ra words <<<"$1"
+    grep -qE "  rt (\\w+\\|)*${words[1]}\\b" <(rt help 2>&1)
+}
+
 try_command() {
     case $1 in
     make\ *) check "$1" bash -euc "make -n ${1#make } >/dev/null" ;;
-    rt\ *) check "$1" grep -qF "  $1" <(rt help) ;;
+    rt\ *) check "$1" knows_command "$1" ;;
     *pkg-config*) if command -v pkg-config >/dev/null; then check "$1" builds_unit "$1"; else echo "skipped: pkg-config is not installed"; fi ;;
     *g++\ *) check "$1" builds_unit "$1" ;;
     *) check "a command that is known: $1" false ;;

@@ -7,7 +7,7 @@ use Rattle.octets.proofs.Once.{one-outcome}
 use Rattle.pws.specs.Surface.{filled, left, taken}
 use Rattle.pws.specs.declared.PwsDone.{PwsDone}
 use Rattle.pws.specs.declared.PwsMessage.{PwsMessage}
-use Rattle.demands.specs.Contracts.{AsksNothing, CodeMeets, LearnsPromises, Contracts, OneOutcome}
+use Rattle.demands.specs.EntryPoints.{AsksNothing, CodeMeets, LearnsPromises, Contracts, OneOutcome}
 use Rattle.pws.proofs.pws_build.Met as build
 use Rattle.pws.proofs.pws_convert.Met as convert
 use Rattle.pws.proofs.pws_apply.Met as apply
@@ -17,8 +17,8 @@ use Rattle.pws.proofs.pws_item.Met as item
 use Rattle.pws.proofs.pws_segment.Met as segment
 use Rattle.pws.proofs.pws_pack.Met as pack
 use Rattle.pws.proofs.pws_read_cancel.Met as cancel
-use Rattle.pws.proofs.pws_write_response.Met as write_response_lem
-use Rattle.pws.proofs.pws_read_response.Met as read_response_lem
+use Rattle.pws.proofs.pws_write_response.Met as write_response
+use Rattle.pws.proofs.pws_read_response.Met as read_response
 
 asks_nothing : AsksNothing
 asks_nothing =
@@ -48,8 +48,8 @@ code_meets =
       segment_meets = segment.met;
       pack_meets = pack.met;
       cancel_meets = cancel.met;
-      write_response_meets = write_response_lem.met;
-      read_response_meets = read_response_lem.met;
+      write_response_meets = write_response.met;
+      read_response_meets = read_response.met;
     }
 
 learns_promises : LearnsPromises

@@ -28,7 +28,7 @@ use Rattle.pws.specs.declared.PwsDone.{PwsDone}
 use Rattle.pws.specs.declared.PwsReading.{PwsReading}
 use Rattle.pws.specs.declared.PwsPart.{PwsPart}
 use Rattle.pws.specs.declared.PwsMessage.{PwsMessage}
-use Rattle.demands.specs.Contracts.{Contracts}
+use Rattle.demands.specs.EntryPoints.{Contracts}
 
 -- ---- what is judged, and the numbers that it can be refused with
 

@@ -1,4 +1,5 @@
-// The C surface: numbers and byte slices in, numbers out. Each function hands its buffers to the crate that does the work.
+// The surface of the library: numbers and byte slices in, numbers out. Each function hands its buffers to the crate that does the work;
+// the crate pws_c exports each under its own name to C.
 #![tactic(auto)]
 
 ghost use Rattle.std.specs.Prelude.{◌≡◌};
@@ -56,29 +57,25 @@ fn done(writing: Writing) -> PwsDone
     }
 }
 
-#[unsafe(no_mangle)]
-pub extern "C" fn pws_build(heads: &[u8], table: &mut [u8]) -> PwsDone
+pub fn pws_build(heads: &[u8], table: &mut [u8]) -> PwsDone
     ensures { BuildPromise heads.now table.old result table.new }
 {
     done(table_build::build(heads, table))
 }
 
-#[unsafe(no_mangle)]
-pub extern "C" fn pws_convert(old: &[u8], table: &mut [u8]) -> PwsDone
+pub fn pws_convert(old: &[u8], table: &mut [u8]) -> PwsDone
     ensures { ConvertPromise old.now table.old result table.new }
 {
     done(table_convert::convert(old, table))
 }
 
-#[unsafe(no_mangle)]
-pub extern "C" fn pws_apply(table: &mut [u8], req: &[u8], answer: &mut [u8]) -> PwsDone
+pub fn pws_apply(table: &mut [u8], req: &[u8], answer: &mut [u8]) -> PwsDone
     ensures { ApplyPromise table.old req.now answer.old result table.new answer.new }
 {
     done(engine::apply::apply(table, req, answer))
 }
 
-#[unsafe(no_mangle)]
-pub extern "C" fn pws_read(req: &[u8]) -> PwsReading
+pub fn pws_read(req: &[u8]) -> PwsReading
     ensures { ReadPromise req.now result }
 {
     match record_read::read(req) {
@@ -95,22 +92,19 @@ pub extern "C" fn pws_read(req: &[u8]) -> PwsReading
     }
 }
 
-#[unsafe(no_mangle)]
-pub extern "C" fn pws_write(request: Request, items: &[u64], buffer: &mut [u8]) -> PwsDone
+pub fn pws_write(request: Request, items: &[u64], buffer: &mut [u8]) -> PwsDone
     ensures { WritePromise request items.now buffer.old result buffer.new }
 {
     done(record_write::write(request, items, buffer))
 }
 
-#[unsafe(no_mangle)]
-pub extern "C" fn pws_item(req: &[u8], k: usize) -> u64
+pub fn pws_item(req: &[u8], k: usize) -> u64
     ensures { ItemPromise req.now k result }
 {
     record_read::item(req, k)
 }
 
-#[unsafe(no_mangle)]
-pub extern "C" fn pws_segment(first: &[u8], more: &[u8], k: usize) -> PwsPart
+pub fn pws_segment(first: &[u8], more: &[u8], k: usize) -> PwsPart
     ensures { SegmentPromise first.now more.now k result }
 {
     match segments::read::locate(first, more, k) {
@@ -135,8 +129,7 @@ pub extern "C" fn pws_segment(first: &[u8], more: &[u8], k: usize) -> PwsPart
     }
 }
 
-#[unsafe(no_mangle)]
-pub extern "C" fn pws_pack(bytes: &[u8], lengths: &[u64], list: &mut [u8]) -> PwsDone
+pub fn pws_pack(bytes: &[u8], lengths: &[u64], list: &mut [u8]) -> PwsDone
     ensures { PackPromise bytes.now lengths.now list.old result list.new }
 {
     done(segments::pack::pack(bytes, lengths, list))
@@ -159,22 +152,19 @@ fn message(taking: Taking) -> PwsMessage
     }
 }
 
-#[unsafe(no_mangle)]
-pub extern "C" fn pws_read_cancel(bytes: &[u8], buffer: &mut [u8]) -> PwsMessage
+pub fn pws_read_cancel(bytes: &[u8], buffer: &mut [u8]) -> PwsMessage
     ensures { ReadCancelPromise bytes.now buffer.old result buffer.new }
 {
     message(wire_cancel::read_cancel(bytes, buffer))
 }
 
-#[unsafe(no_mangle)]
-pub extern "C" fn pws_write_response(answer: &[u8], transaction: u8, bytes: &mut [u8]) -> PwsDone
+pub fn pws_write_response(answer: &[u8], transaction: u8, bytes: &mut [u8]) -> PwsDone
     ensures { WriteResponsePromise answer.now transaction bytes.old result bytes.new }
 {
     done(response_write::write_response(answer, transaction, bytes))
 }
 
-#[unsafe(no_mangle)]
-pub extern "C" fn pws_read_response(bytes: &[u8], answer: &mut [u8]) -> PwsMessage
+pub fn pws_read_response(bytes: &[u8], answer: &mut [u8]) -> PwsMessage
     ensures { ReadResponsePromise bytes.now answer.old result answer.new }
 {
     message(response_read::read_response(bytes, answer))

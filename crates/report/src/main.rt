@@ -10,41 +10,47 @@ ghost use Rattle.report_turns.specs.Serve.{most_text};
 ghost use Rattle.report_turns.specs.Buffers.{Standing};
 ghost use Rattle.report.specs.Going.{Written, ReadOn};
 
-use libc::{STDERR_FILENO, STDIN_FILENO, STDOUT_FILENO};
 use report_lines::frame::settle;
 use report_turns::{Stand, start, turn};
 use rules::layout::{ANSWER, CELL, HEADER, MOST_CELLS, PLACES, ROW};
+use std::io::{Read, Write};
+
+// The bytes that are read at once, and those that are written at once, at most.
+const INPUT: usize = 65536;
+
+const OUT: usize = 131072;
 
 // ---- what went wrong outside
 
-// A program has no exit status here: a line on standard error says it.
-fn cannot_write() {
-    io::write_all(
-        STDERR_FILENO,
-        b"report: standard output cannot be written\n",
-    );
+// The program ends with status 0 all the same: a line on standard error says it.
+fn cannot_write(rt: HostRuntime) {
+    let _ = rt
+        .stderr()
+        .write_all(b"report: standard output cannot be written\n");
 }
 
-fn cannot_read() {
-    io::write_all(STDERR_FILENO, b"report: standard input cannot be read\n");
+fn cannot_read(rt: HostRuntime) {
+    let _ = rt
+        .stderr()
+        .write_all(b"report: standard input cannot be read\n");
 }
 
 // ---- writing and reading
 
-fn put_out(out: &[u8], at: usize) -> bool
+fn put_out(rt: HostRuntime, out: &[u8], at: usize) -> bool
     requires { at ≤ length out.now }
 {
-    io::write_all(STDOUT_FILENO, &out[..at])
+    rt.stdout().write_all(&out[..at]).is_ok()
 }
 
 // The text is written, and the next one begins at the front. With nobody left to tell, the program stops.
-fn write_text(s: Stand, out: &[u8]) -> Stand
+fn write_text(rt: HostRuntime, s: Stand, out: &[u8]) -> Stand
     requires { s.at ≤ length out.now }
     ensures { Written s result }
 {
-    let sound = put_out(out, s.at);
+    let sound = put_out(rt, out, s.at);
     if !sound {
-        cannot_write();
+        cannot_write(rt);
     }
     Stand {
         cells: s.cells,
@@ -59,7 +65,7 @@ fn write_text(s: Stand, out: &[u8]) -> Stand
 }
 
 // Moves what is left to the front and reads once behind it. Nothing more: the input has ended.
-fn read_on(s: Stand, input: &mut [u8]) -> Stand
+fn read_on(rt: HostRuntime, s: Stand, input: &mut [u8]) -> Stand
     requires from_le_to { s.from ≤ s.to }
     requires to_in_bounds { s.to ≤ length input.old }
     requires from_in_bounds { s.to - s.from < length input.old }
@@ -69,11 +75,13 @@ fn read_on(s: Stand, input: &mut [u8]) -> Stand
     let to = s.to;
     settle(input, from, to);
     let kept = to - from;
-    let got = libc::read(STDIN_FILENO, &mut input[kept..]);
-    if got < 0 {
-        cannot_read();
+    let (more, sound) = match rt.stdin().read(&mut input[kept..]) {
+        Ok(n) => (n, true),
+        Err(_) => (0, false),
+    };
+    if !sound {
+        cannot_read(rt);
     }
-    let more = io::count(got, &input[kept..]);
     Stand {
         cells: s.cells,
         from: 0,
@@ -81,7 +89,7 @@ fn read_on(s: Stand, input: &mut [u8]) -> Stand
         at: s.at,
         ended: more == 0,
         waits: false,
-        stops: got < 0,
+        stops: !sound,
         writes: false,
     }
 }
@@ -89,7 +97,14 @@ fn read_on(s: Stand, input: &mut [u8]) -> Stand
 // ---- turn after turn
 
 // One turn, and what it asks for: its text is written before a read may have to wait.
-fn step(s: Stand, input: &mut [u8], table: &mut [u8], answer: &mut [u8], out: &mut [u8]) -> Stand
+fn step(
+    rt: HostRuntime,
+    s: Stand,
+    input: &mut [u8],
+    table: &mut [u8],
+    answer: &mut [u8],
+    out: &mut [u8],
+) -> Stand
     requires standing { Standing s (length input.old) (length table.old) (length answer.old) (length out.old) }
     requires most_cells_in_bounds { heads_end most_cells ≤ length input.old }
     ensures { result.stops ≡ false → Standing result (length input.new) (length table.new) (length answer.new) (length out.new) }
@@ -98,18 +113,18 @@ fn step(s: Stand, input: &mut [u8], table: &mut [u8], answer: &mut [u8], out: &m
     if !told.writes {
         return told;
     }
-    let next = write_text(told, out);
+    let next = write_text(rt, told, out);
     if next.stops {
         return next;
     }
     if !next.waits {
         return next;
     }
-    read_on(next, input)
+    read_on(rt, next, input)
 }
 
 // A proved loop has to end, and nothing says that the input does. So it counts its turns down, from a number that no run uses up.
-fn run(input: &mut [u8], table: &mut [u8], answer: &mut [u8], out: &mut [u8])
+fn run(rt: HostRuntime, input: &mut [u8], table: &mut [u8], answer: &mut [u8], out: &mut [u8])
     requires most_cells_in_bounds { heads_end most_cells ≤ length input.old }
     requires most_cells_in_bounds_2 { table_size most_cells ≤ length table.old }
     requires most_cells_in_bounds_3 { answer_room most_cells ≤ length answer.old }
@@ -121,15 +136,15 @@ fn run(input: &mut [u8], table: &mut [u8], answer: &mut [u8], out: &mut [u8])
         if s.stops {
             break;
         }
-        s = step(s, input, table, answer, out);
+        s = step(rt, s, input, table, answer, out);
         turns -= 1;
     }
 }
 
-fn main() {
-    let mut input = io::large_buffer();
+fn main(rt: HostRuntime) {
+    let mut input = [0; INPUT];
     let mut table = [0; HEADER + CELL * MOST_CELLS];
     let mut answer = [0; ANSWER + ROW * PLACES * MOST_CELLS];
-    let mut out = [0; 131072];
-    run(&mut input, &mut table, &mut answer, &mut out);
+    let mut out = [0; OUT];
+    run(rt, &mut input, &mut table, &mut answer, &mut out);
 }

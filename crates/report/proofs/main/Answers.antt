@@ -1,0 +1,8 @@
+-- `main` has buffers for the largest table, its largest answer and a text; the answer's room is computed: `room_of`.
+use Rattle.std.proofs.Common.{arith}
+use Rattle.rules.specs.Layout.{most_cells}
+use Rattle.report_turns.proofs.RoomLaws.{room_of}
+use Rattle.report.proofs.main.Goals as goal
+
+pub run-requires-clause-most_cells_in_bounds_3 : goal.run-requires-clause-most_cells_in_bounds_3
+run-requires-clause-most_cells_in_bounds_3 c = omega (arith, room_of most_cells)
