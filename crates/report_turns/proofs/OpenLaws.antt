@@ -26,6 +26,11 @@ use Rattle.report_turns.specs.declared.Took.{Took}
 use Rattle.report_turns.proofs.OpeningLaws.{at_least, within}
 use Rattle.report_turns.proofs.StoredLaws.{sets_all, sets-take, part-stored}
 
+-- what was not left unwritten was written
+pub written-if : (w : Writing) → ((x : Refusal) → w ≡ Unwritten x → ⊥) → (n : ℕ) × (w ≡ Written n)
+written-if (Written n) not = (n, refl)
+written-if (Unwritten x) not = absurd (not x refl)
+
 -- ---- N and the heads
 
 pub there-short : (l : List ℕ) → length l < count_size → 0 ≡ cond (heads_there l) (cells_named l) 0

@@ -58,7 +58,7 @@ module _ {s : Stand} {input t a out : List ℕ} {s' : Stand} {t' a' out' : List 
     waits_there : (turn_of c).waits ≡ true
     same-program : program_in s'.cells t' a' ≡ program_of c
     same-held : held_in s' input ≡ l
-    no_text_lem : take s'.at out' ≡ take s.at out
+    no-text : take s'.at out' ≡ take s.at out
 
   did-wait : s'.waits ≡ true → Waited
   did-wait e = by (step_does (program_of c) l s.ended)
@@ -72,7 +72,7 @@ module _ {s : Stand} {input t a out : List ℕ} {s' : Stand} {t' a' out' : List 
             waits_there = ap (λ (y : Step). y.waits) w;
             same-program = program-after c ∙ ap (λ (y : Step). y.program) w;
             same-held = held_after c ∙ ap (λ (y : Step). drop y.taken l) w;
-            no_text_lem = text-after c ∙ ap (λ (y : Step). take s.at out ++ y.said) w ∙ append-nil (take s.at out);
+            no-text = text-after c ∙ ap (λ (y : Step). take s.at out ++ y.said) w ∙ append-nil (take s.at out);
           }
 
   fed_spoken : (w : Waited) (piece input' : List ℕ) (over : Bool) (s'' : Stand) (pieces : List (List ℕ)) (rest : List ℕ) → Fed s' input piece over s'' input'
@@ -83,7 +83,7 @@ module _ {s : Stand} {input t a out : List ℕ} {s' : Stand} {t' a' out' : List 
   fed_text : (w : Waited) (piece input' : List ℕ) (over : Bool) (s'' : Stand) (text rest : List ℕ) → Fed s' input piece over s'' input' → text ≡ take s''.at out' ++ rest
       → take s'.at out' ++ text ≡ take s.at out ++ rest
   fed_text w piece input' over s'' text rest f e =
-      ap (λ (y : List ℕ). take s'.at out' ++ y) (e ∙ ap (λ (n : ℕ). take n out' ++ rest) f.at) ∙ ap (λ (y : List ℕ). y ++ rest) w.no_text
+      ap (λ (y : List ℕ). take s'.at out' ++ y) (e ∙ ap (λ (n : ℕ). take n out' ++ rest) f.at) ∙ ap (λ (y : List ℕ). y ++ rest) w.no-text
 
 talk_said : {s : Stand} {input t a out : List ℕ} {pieces : List (List ℕ)} {text : List ℕ} → Talk s input t a out pieces text → SaidBehind s input t a out pieces text
 talk_said {pieces} (stops c e) = stops-behind c pieces e
