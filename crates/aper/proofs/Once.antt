@@ -74,4 +74,4 @@ run_settled l at NoRun (Upto b n) p q e = absurd (nothing-found n (drop b l) e)
 run_settled l at NoRun NoRun p q e = refl
 
 pub given_at_once : SettlesResult given_at_lem.Learnt
-given_at_once κ args r s e f p q = run_settled _ _ r s p.lies q.lies (one-outcome p.says q.says)
+given_at_once κ args r s e f p q = run_settled _ 0 r s p.lies q.lies (one-outcome p.says q.says)

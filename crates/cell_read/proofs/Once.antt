@@ -3,7 +3,7 @@
 use mathlib.Core.Path.{◌≡◌}
 use Rattle.octets.specs.Settled.{SettlesResult}
 use Rattle.octets.proofs.Once.{one-outcome}
-use Rattle.cell_read.proofs.is_live.Reads as is_live_lem
+use Rattle.cell_read.proofs.is_live.Reads as is_live
 use Rattle.cell_read.proofs.content.Reads as content
 use Rattle.cell_read.proofs.sent.Reads as sent
 use Rattle.cell_read.proofs.wait.Reads as wait

@@ -6,7 +6,6 @@ use Prim.Native.Nat.{ℕ, ◌+◌, ◌<◌, ◌≤◌}
 use native.Mathlib.Omega.{arith}
 use lib.ListN.{length, get_or, take, length-map}
 use Rattle.octets.specs.Runs.{gets}
-use Rattle.octets.specs.Fields.{size}
 use Rattle.octets.proofs.FieldsLaws.{length-padded}
 use Rattle.rules.specs.Layout.{current, head_size, place_size, places_per_cell}
 use Rattle.rules.specs.Table.{place_bytes, free_bytes, places_bytes}

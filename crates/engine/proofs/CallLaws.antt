@@ -1,6 +1,6 @@
 -- The tests of a call, in their order, and its outcome by them: the cases of `apply_verdict` and of `applied`.
 -- Each test that was passed is put into the chain of verdicts; what is accepted has the sizes that its tests ask for.
-use mathlib.Core.Path.{◌≡◌}
+use mathlib.Core.Path.{◌≡◌, refl}
 use mathlib.Core.List.{List}
 use Prim.Native.Nat.{ℕ, ◌+◌, ◌*◌, ◌<◌, ◌≤◌}
 use native.Mathlib.Omega.{arith}
@@ -14,6 +14,7 @@ use Rattle.rules.specs.Refusals.{table_verdict, record_verdict, apply_verdict}
 use Rattle.rules.specs.Applied.{outcome, outcome_by, applied}
 use Rattle.rules.specs.declared.Refusal.{Refusal}
 use Rattle.rules.specs.declared.Refusal.TheVariants.{ShortBuffer}
+use Rattle.rules.specs.declared.Verdict.{Verdict}
 use Rattle.rules.specs.declared.Writing.TheVariants.{Written, Unwritten}
 use Rattle.rules.specs.declared.Verdict.TheVariants.{Accepted, Refused}
 use Rattle.rules.proofs.LegalTableLaws.{table-accepted}
@@ -22,6 +23,12 @@ use Rattle.rules.proofs.VerdictLaws.{apply_chain, request-accepted}
 use Rattle.rules.proofs.KindAreaLaws.{kind-known}
 use Rattle.rules.proofs.AcceptedCallLaws.{call_accepted}
 use Rattle.engine.specs.Walk.{Granted}
+
+-- ---- a verdict that is no refusal
+
+pub no-refusal : (v : Verdict) → ((x : Refusal) → v ≡ Refused x → ⊥) → v ≡ Accepted
+no-refusal Accepted n = refl
+no-refusal (Refused x) n = absurd (n x refl)
 
 -- ---- the tests
 

@@ -104,6 +104,6 @@ module _ (t r a : List ℕ) (bt : Bytes t) (br : Bytes r) (e : apply_verdict cur
             record {
               starts = z;
               sound = new-sound current q (items_of r) (rw eq (record-fits current r br accepted)) (rw eq allowed.limits) k z;
-              new_place_lem = en;
+              new_place = en;
             };
       }

@@ -26,4 +26,4 @@ lent-sets s xs o m h e =
     let whole : take m (drop o s) ≡ drop o s = take_all m (drop o s) (omega arith) in
     let short : length (drop o s) ≤ m = omega arith in
     let rest : drop m (drop o s) ≡ [] = drop_of_length-le (drop o s) short in
-    rw (whole, rest, append-nil, sets-eq xs (drop o s) 0 (omega arith), sets-eq xs s o h, zero-add, drop-drop (length xs) o s, append_assoc)
+    rw (whole, rest, append-nil, sets-eq xs (drop o s) 0 (omega arith), sets-eq xs s o h, zero-add, drop-drop (length xs) o s, append_assoc, append_assoc)

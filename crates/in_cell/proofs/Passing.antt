@@ -1,11 +1,11 @@
 -- A pass over the live places of a cell: the places passed and those still to come, and what a turn leaves that changes the next one, keeps it or drops it.
 -- The cell is the one at the start with other places, so what it says of place k is the first of those still to come.
 use mathlib.Core.Path.{◌≡◌, refl, sym, ap, ◌∙◌}
-use mathlib.Core.Bool.{Bool, true, false, not}
+use mathlib.Core.Bool.{Bool, true, false}
 use mathlib.Core.List.{List, [], ◌∷◌, ◌++◌, append_assoc}
 use Prim.Native.Nat.{ℕ, ◌+◌, ◌<◌, ◌≤◌}
 use native.Mathlib.Omega.{arith}
-use borrow.Author.Tests.{ltb-true, ltb-false, not-true, not-false}
+use borrow.Author.Tests.{ltb-true, ltb-false}
 use lib.Dec.{ltb}
 use lib.ListN.{length, take, set, length-append}
 use lib.Seq.{set_at, take_at, drop_at, get_or_at, drop-drop}
@@ -114,8 +114,8 @@ module _ {c₀ c : List ℕ} {k : ℕ} {passed rest : List Place} {p : Place} (w
 
 -- ---- what the test for a live place says
 
-pub is_live_lem : {live : Bool} {k n : ℕ} → live ≡ ltb k n → not live ≡ false → k < n
-is_live_lem {live} {k} {n} e t = ltb-true k n (sym e ∙ not-false live t)
+pub live-below : {live : Bool} {k n : ℕ} → live ≡ ltb k n → live ≡ true → k < n
+live-below {live} {k} {n} e t = ltb-true k n (sym e ∙ t)
 
-pub is_free_lem : {live : Bool} {k n : ℕ} → live ≡ ltb k n → not live ≡ true → n ≤ k
-is_free_lem {live} {k} {n} e t = ltb-false k n (sym e ∙ not-true live t)
+pub free-past : {live : Bool} {k n : ℕ} → live ≡ ltb k n → live ≡ false → n ≤ k
+free-past {live} {k} {n} e t = ltb-false k n (sym e ∙ t)

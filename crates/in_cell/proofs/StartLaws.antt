@@ -54,11 +54,11 @@ module _ (q : Request) (new : List ℕ) (input : StartIn q new) where
   new-fit = (sound-place current (new_place q) input.sound).0
 
   new-again : place_of current new ≡ new_place q
-  new-again = rw input.new_place_lem (place-again current (new_place q) new-fit)
+  new-again = rw input.new_place (place-again current (new_place q) new-fit)
 
   pub new-one : OnePlace new
   new-one =
-      rw input.new_place_lem (record { long = length-place_bytes current (new_place q); live = place-live current (new_place q) new-fit })
+      rw input.new_place (record { long = length-place_bytes current (new_place q); live = place-live current (new_place q) new-fit })
 
 -- ---- in a cell, with what the search gave
 

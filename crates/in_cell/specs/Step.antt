@@ -33,7 +33,7 @@ pub record Stepped (d : Done) (c out c' out' : List ℕ) (most n : ℕ) : Type 0
 pub record StartIn (q : Request) (new : List ℕ) : Type 0 where
   pub starts : starts_nothing q ≡ false
   pub sound : sound_place current (new_place q) ≡ true
-  pub new_place_lem : new ≡ place_bytes current (new_place q)
+  pub new_place : new ≡ place_bytes current (new_place q)
 
 -- a request of a known kind; if it is a Write-Replace, one that starts something
 pub record ToStep (q : Request) (new : List ℕ) : Type 0 where

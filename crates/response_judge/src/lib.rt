@@ -18,7 +18,7 @@ use wire_judge::framing::frame;
 
 // What was met in the elements so far, as the judge of requests keeps it, but only what a response can say: then it fills three words, and no byte is left
 // between two fields or behind the last to be moved along.
-#[derive(Drop)]
+#[derive(Clone, Copy)]
 pub struct Met {
     pub start: usize,
     pub end: usize,

@@ -20,7 +20,7 @@ use octets::{get8, get16, get64};
 use rules::Refusal;
 
 // The messages that are read.
-#[derive(Drop)]
+#[derive(Clone, Copy)]
 pub enum Message {
     CancelRequest,
     CancelResponse,

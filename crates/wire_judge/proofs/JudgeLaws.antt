@@ -164,7 +164,7 @@ module _ (m : Message) where
           in_order_lem : (s.ordered && has_all m s.identified s.counted) ≡ in_order m (known_ids (message_elements m b))
           unfolding account_by
           in_order_lem =
-              ap (λ (a : Account). a.ordered && has_all m a.has_transaction a.has_requested) h.account ∙ (account_of m es).in_order ∙ ap (λ (xs : Elements). in_order m (known_ids xs)) (sym h.elements)
+              ap (λ (a : Account). a.ordered && has_all m a.has_transaction a.has_requested) h.account ∙ (account_of m es).in_order_lem ∙ ap (λ (xs : Elements). in_order m (known_ids xs)) (sym h.elements)
 
           says : said_in m b ≡ (account_by m (drop start b) s).says
           says = ap said h.elements ∙ sym (ap (λ (a : Account). a.says) h.account ∙ (account_of m es).says)

@@ -28,7 +28,7 @@ pub enum Framed {
 // What was seen in the elements so far: whether something is marked reject, whether an item of the list is missing, whether its cells ascend, whether the
 // known elements are in order, the last of them, whether the two mandatory ones are there; what they said; where the list of cells begins and ends, both 0
 // without one. Wide fields come first, and the numbers are as wide as leaves no byte between two fields or behind the last: such bytes are moved along too.
-#[derive(Drop)]
+#[derive(Clone, Copy)]
 pub struct Seen {
     pub start: usize,
     pub end: usize,

@@ -1,0 +1,46 @@
+-- `verdict` gives the first of the refusals 1 to 8 that applies.
+-- Each way out is its case of `apply_verdict`, by the verdicts that led there.
+use mathlib.Core.Path.{◌≡◌, sym, ◌∙◌}
+use native.Mathlib.Omega.{arith}
+use Rattle.rules.specs.Layout.{current}
+use Rattle.rules.specs.Refusals.{table_verdict, record_verdict}
+use Rattle.rules.specs.declared.Verdict.TheVariants.{Accepted}
+use Rattle.engine.proofs.CallLaws.{no-refusal, table-refused, record-refused, room-refused, none-refused, long-table, long-record, few-cells, known-kind}
+use Rattle.engine.proofs.apply.verdict.Goals.{In_default, In_default-verdict}
+use Rattle.engine.proofs.apply.verdict.Goals as goal
+
+-- the stages: the call, a table that was not refused, a record that was not refused either
+table_fine : (c : In_default) → table_verdict current c.args.table.now ≡ Accepted
+table_fine c = sym c.verdict.ensures ∙ no-refusal _ c.in_default.not-Refused
+
+record_fine : (c : In_default-verdict) → record_verdict current c.args.req.now ≡ Accepted
+record_fine c = sym c.verdict-2.ensures ∙ no-refusal _ c.in_default-verdict.not-Refused
+
+pub returns-in-Refused : goal.returns-in-Refused
+returns-in-Refused c = table-refused _ _ _ _ (sym c.verdict.ensures ∙ c.in-Refused.is)
+
+pub returns-in-Refused-verdict : goal.returns-in-Refused-verdict
+returns-in-Refused-verdict c =
+    record-refused _ _ _ (table_fine (goal.at.returns-in-Refused-verdict c).In_default) _ (sym c.verdict-2.ensures ∙ c.in-Refused-verdict.is)
+
+pub request-fields-requires : goal.request-fields-requires
+request-fields-requires c = long-record _ (record_fine (goal.at.request-fields-requires c).In_default-verdict)
+
+pub cells_of-requires : goal.cells_of-requires
+cells_of-requires c = long-table _ (table_fine (goal.at.cells_of-requires c).In_default)
+
+pub room_for-requires : goal.room_for-requires
+room_for-requires c = (
+  omega (arith, c.cells_of.ensures, few-cells _ (table_fine (goal.at.room_for-requires c).In_default)),
+  rw c.request-fields.ensures (known-kind _ (record_fine (goal.at.room_for-requires c).In_default-verdict)),
+)
+
+pub returns-then-room-room_for : goal.returns-then-room-room_for
+returns-then-room-room_for c =
+    room-refused _ _ _ (table_fine (goal.at.returns-then-room-room_for c).In_default) (record_fine (goal.at.returns-then-room-room_for c).In_default-verdict)
+    (rw (← c.request-fields.ensures, ← c.cells_of.ensures, ← c.room_for.ensures) c.if-room-room_for.true)
+
+pub returns : goal.returns
+returns c =
+    none-refused _ _ _ (table_fine (goal.at.returns c).In_default) (record_fine (goal.at.returns c).In_default-verdict)
+    (rw (← c.request-fields.ensures, ← c.cells_of.ensures, ← c.room_for.ensures) c.if-room-room_for.false)

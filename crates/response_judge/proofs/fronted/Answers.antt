@@ -1,0 +1,7 @@
+-- `fronted` says true of a response that begins with a transaction identifier alone: by its tests, which are those of `GlanceLaws`.
+use Rattle.response_judge.proofs.GlanceLaws.{front_there}
+use Rattle.response_judge.proofs.fronted.Goals as goal
+
+pub returns : goal.returns
+returns c =
+    front_there _ (λ i. (c.shared_slice_known-1.given i).fits) c.if-s-lt-FRONT.false _ _ _ c.get8.ensures c.get32-head.ensures c.get8-2.ensures

@@ -1,0 +1,14 @@
+-- `new_place` returns the place that a Write-Replace makes.
+-- By the test for a primary, field by field.
+use borrow.Author.Tests.{eq-eqb, ne_eqb}
+use Rattle.rules.specs.Layout.{primary_sib}
+use Rattle.rules.specs.InCell.{new_place}
+use Rattle.start.proofs.new_place.Goals as goal
+
+pub returns-then-request-eq-PRIMARY_SIB : goal.returns-then-request-eq-PRIMARY_SIB
+unfolding new_place
+returns-then-request-eq-PRIMARY_SIB c = rw (eq-eqb _ primary_sib c.if-request-eq-PRIMARY_SIB.true)
+
+pub returns-else-request-eq-PRIMARY_SIB : goal.returns-else-request-eq-PRIMARY_SIB
+unfolding new_place
+returns-else-request-eq-PRIMARY_SIB c = rw (ne_eqb _ primary_sib c.if-request-eq-PRIMARY_SIB.false)
