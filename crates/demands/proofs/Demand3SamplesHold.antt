@@ -1,7 +1,7 @@
 -- The two samples of demand 3 hold.
 -- What each call leaves is computed in rules (CallSamples); the calls that do not meet reach no common cell, which is computed there too.
 use mathlib.Core.Path.{◌≡◌, refl, sym, ap, ◌∙◌}
-use mathlib.Core.Bool.{Bool, true, false, ◌&&◌, false≢true}
+use mathlib.Core.Bool.{Bool, false, ◌&&◌, false≢true}
 use mathlib.Core.Option.{some}
 use mathlib.Core.List.Permᴰ
 use mathlib.Core.List.{List, [], ◌∷◌}

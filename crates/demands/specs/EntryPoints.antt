@@ -2,7 +2,7 @@
 -- Said of the contracts themselves, as the checker reads them: `Asked` is what a caller has to show, `Learnt` what it learns, and `statement` that the function's code meets the contract.
 use Rattle.std.specs.Prelude.{List, ℕ}
 use contract.Lifetimes.{Lfts}
-use Rattle.std.specs.Borrow.{Bor}
+use Rattle.std.specs.Borrow.{Bor, MutBor}
 use Rattle.octets.specs.Settled.{Settles, SettlesResult}
 use Rattle.rules.specs.declared.Request.{Request}
 use Rattle.pws.specs.Promises.{BuildPromise, ConvertPromise, ApplyPromise, ReadPromise, WritePromise, ItemPromise, SegmentPromise, PackPromise, ReadCancelPromise, WriteResponsePromise, ReadResponsePromise}
@@ -33,9 +33,13 @@ use Rattle.pws.proofs.pws_write_response.Statement as write_response-code
 use Rattle.pws.proofs.pws_read_response.Reads as read_response
 use Rattle.pws.proofs.pws_read_response.Statement as read_response-code
 
--- a lent buffer, at any place in memory
+-- a buffer lent to be read, at any place in memory
 abbrev Lent : Type 0
 Lent = Bor (List ℕ)
+
+-- a buffer lent to be read and written, at any place in memory
+abbrev LentOut : Type 0
+LentOut = MutBor (List ℕ)
 
 -- a caller has nothing to show, whatever it hands over
 pub record AsksNothing : Type 0 where
@@ -67,19 +71,19 @@ pub record CodeMeets : Type 2 where
 
 -- what a caller learns is the promise
 pub record LearnsPromises : Type 0 where
-  pub build-says : (κs : Lfts 2) (heads table table' : Lent) (d : PwsDone)
+  pub build-says : (κs : Lfts 2) (heads : Lent) (table table' : LentOut) (d : PwsDone)
       → build.Learnt κs (heads, (table, tt)) d (heads, (table', tt))
       → BuildPromise heads.now table.now d table'.now
-  pub convert-says : (κs : Lfts 2) (old table table' : Lent) (d : PwsDone)
+  pub convert-says : (κs : Lfts 2) (old : Lent) (table table' : LentOut) (d : PwsDone)
       → convert.Learnt κs (old, (table, tt)) d (old, (table', tt))
       → ConvertPromise old.now table.now d table'.now
-  pub apply-says : (κs : Lfts 3) (table req answer table' answer' : Lent) (d : PwsDone)
+  pub apply-says : (κs : Lfts 3) (table : LentOut) (req : Lent) (answer table' answer' : LentOut) (d : PwsDone)
       → apply.Learnt κs (table, (req, (answer, tt))) d (table', (req, (answer', tt)))
       → ApplyPromise table.now req.now answer.now d table'.now answer'.now
   pub read-says : (κs : Lfts 1) (req : Lent) (d : PwsReading)
       → read.Learnt κs (req, tt) d (req, tt)
       → ReadPromise req.now d
-  pub write-says : (κs : Lfts 2) (request : Request) (items buffer buffer' : Lent) (d : PwsDone)
+  pub write-says : (κs : Lfts 2) (request : Request) (items : Lent) (buffer buffer' : LentOut) (d : PwsDone)
       → write.Learnt κs (request, (items, (buffer, tt))) d (request, (items, (buffer', tt)))
       → WritePromise request items.now buffer.now d buffer'.now
   pub item-says : (κs : Lfts 1) (req : Lent) (k n : ℕ)
@@ -88,16 +92,16 @@ pub record LearnsPromises : Type 0 where
   pub segment-says : (κs : Lfts 2) (first more : Lent) (k : ℕ) (p : PwsPart)
       → segment.Learnt κs (first, (more, (k, tt))) p (first, (more, (k, tt)))
       → SegmentPromise first.now more.now k p
-  pub pack-says : (κs : Lfts 3) (bytes lengths list list' : Lent) (d : PwsDone)
+  pub pack-says : (κs : Lfts 3) (bytes lengths : Lent) (list list' : LentOut) (d : PwsDone)
       → pack.Learnt κs (bytes, (lengths, (list, tt))) d (bytes, (lengths, (list', tt)))
       → PackPromise bytes.now lengths.now list.now d list'.now
-  pub cancel-says : (κs : Lfts 2) (message buffer buffer' : Lent) (m : PwsMessage)
+  pub cancel-says : (κs : Lfts 2) (message : Lent) (buffer buffer' : LentOut) (m : PwsMessage)
       → cancel.Learnt κs (message, (buffer, tt)) m (message, (buffer', tt))
       → ReadCancelPromise message.now buffer.now m buffer'.now
-  pub write_response-says : (κs : Lfts 2) (answer : Lent) (transaction : ℕ) (message message' : Lent) (d : PwsDone)
+  pub write_response-says : (κs : Lfts 2) (answer : Lent) (transaction : ℕ) (message message' : LentOut) (d : PwsDone)
       → write_response.Learnt κs (answer, (transaction, (message, tt))) d (answer, (transaction, (message', tt)))
       → WriteResponsePromise answer.now transaction message.now d message'.now
-  pub read_response-says : (κs : Lfts 2) (bytes answer answer' : Lent) (m : PwsMessage)
+  pub read_response-says : (κs : Lfts 2) (bytes : Lent) (answer answer' : LentOut) (m : PwsMessage)
       → read_response.Learnt κs (bytes, (answer, tt)) m (bytes, (answer', tt))
       → ReadResponsePromise bytes.now answer.now m answer'.now
 
