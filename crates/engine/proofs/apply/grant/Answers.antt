@@ -7,7 +7,6 @@ use Rattle.engine.proofs.GrantLaws.{answer-room, idle_granted, walk_granted, to-
 use Rattle.engine.proofs.apply.grant.Goals.{After-idle}
 use Rattle.engine.proofs.apply.grant.Goals as goal
 
--- the stages: the call; its request read, and asked whether it is idle; the bytes of the new place made; the walk
 -- the bytes of the table and of the record
 table-bytes : (c : After-idle) → Bytes c.args.table.now
 table-bytes c i = (c.slice_known-1.given i).fits

@@ -9,7 +9,7 @@ use Rattle.engine.proofs.CallLaws.{no-refusal, table-refused, record-refused, ro
 use Rattle.engine.proofs.apply.verdict.Goals.{In_default, In_default-verdict}
 use Rattle.engine.proofs.apply.verdict.Goals as goal
 
--- the stages: the call, a table that was not refused, a record that was not refused either
+-- a table that was not refused, and a record that was not refused either
 table_fine : (c : In_default) → table_verdict current c.args.table.now ≡ Accepted
 table_fine c = sym c.verdict.ensures ∙ no-refusal _ c.in_default.not-Refused
 

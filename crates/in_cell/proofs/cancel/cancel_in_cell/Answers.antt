@@ -8,7 +8,7 @@ use Rattle.in_cell.proofs.StopLaws.{cancel-every, cancel-one}
 use Rattle.in_cell.proofs.cancel.cancel_in_cell.Goals.{Else-cancels_all}
 use Rattle.in_cell.proofs.cancel.cancel_in_cell.Goals as goal
 
--- the stages: the call; without flag 2
+-- without flag 2
 small : (c : Else-cancels_all) → c.args.request.serial < 65536
 small c = omega arith
 

@@ -10,7 +10,8 @@ use Rattle.in_cell.proofs.StopLaws.{sought_live, sought_stops, sought_idle}
 use Rattle.in_cell.proofs.cancel.cancel_text.Goals.{After-seek-sought, Else-not-sought}
 use Rattle.in_cell.proofs.cancel.cancel_text.Goals as goal
 
--- the stages: the call; the search; the text found
+-- ---- behind the search, and where the text was found
+
 formed : (k : After-seek-sought) → Formed k.args.cell.now
 formed k =
     ready_formed k.args.cell.now k.args.out.now 1 k.requires (λ i. (k.slice_known-1.given i).fits)
@@ -24,6 +25,7 @@ live c =
     sought_live c.args.cell.now c.args.out.now c.args.text _ _ c.seek-sought.ensures.0 c.seek-sought.ensures.1 formed (found c)
 
 -- ---- the steps
+
 pub seek-sought-requires : goal.seek-sought-requires
 seek-sought-requires c =
     ready_formed c.args.cell.now c.args.out.now 1 c.requires (λ i. (c.slice_known-1.given i).fits)

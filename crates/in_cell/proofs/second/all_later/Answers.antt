@@ -16,7 +16,7 @@ use Rattle.in_cell.proofs.second.all_later.Goals as goal
 seconds : {a b : Seconds} → a ≡ b → a.0 ≡ b.0
 seconds e = ap (λ (x : Seconds). x.0) e
 
--- the stages: a turn; its place, which is live; a place to broadcast, and one that waits
+-- a turn's place, which is live, and one to broadcast
 live : (l : Else-not-is_live) → l.places.k < length (live_places l.places.cell)
 live l = live-below l.is_live.ensures l.if-not-is_live.false
 

@@ -5,7 +5,7 @@ use Rattle.in_cell.proofs.Passes.{pass_leaves, stepped_one, stepped_two}
 use Rattle.in_cell.proofs.second.second_in_cell.Goals.{After-all_later-pass}
 use Rattle.in_cell.proofs.second.second_in_cell.Goals as goal
 
--- the stages: the call; behind the first pass
+-- behind the first pass
 bytes : (p : After-all_later-pass) → Bytes p.args.cell.now
 bytes p = λ i. (p.slice_known-1.given i).fits
 

@@ -28,6 +28,7 @@ failure-row : (c : Else-request-eq-RESTART) → rows_per_cell c.args.request.kin
 failure-row c = rows_of-kind c.args.request.kind failure_kind 1 (fails c) refl
 
 -- ---- the steps
+
 pub start_in_cell-requires : goal.start_in_cell-requires
 start_in_cell-requires c =
     record { ready = ready_for c.args.request.kind 1 _ _ (start-row (goal.at.start_in_cell-requires c).Then-request-eq-WRITE_REPLACE) c.requires.ready; start_in = c.requires.to_step.0.start c.if-request-eq-WRITE_REPLACE.true }

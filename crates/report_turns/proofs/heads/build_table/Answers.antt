@@ -10,7 +10,7 @@ use Rattle.report_turns.proofs.OpenLaws.{written-if, refused_stepped, made_stepp
 use Rattle.report_turns.proofs.heads.build_table.Goals.{Start}
 use Rattle.report_turns.proofs.heads.build_table.Goals as goal
 
--- the stages: the call; the table's part lent; built; the refusal known
+-- the part of the table that is lent
 part-long : (c : Start) → length (take (table_size c.args.cells) c.args.table.now) ≡ table_size c.args.cells
 part-long c = length-take-le (table_size c.args.cells) c.args.table.now (omega arith)
 

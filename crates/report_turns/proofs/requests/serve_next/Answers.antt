@@ -12,7 +12,7 @@ use Rattle.report_turns.proofs.ServedLaws.{nothing_stepped, request_stepped}
 use Rattle.report_turns.proofs.requests.serve_next.Goals.{After-room_for-room, Start}
 use Rattle.report_turns.proofs.requests.serve_next.Goals as goal
 
--- the stages: the call; its record framed; the room of its answer known; the answer's part lent
+-- the front parts of both buffers, and the room of the answer once it is known
 table_fits : (c : Start) → table_size c.args.cells ≤ length c.args.table.now
 table_fits c = omega (arith, c.requires.to_take.few, c.requires.to_take.table-room)
 
