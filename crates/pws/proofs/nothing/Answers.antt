@@ -1,0 +1,8 @@
+-- `nothing` is the request that a refused record gives, field by field.
+use Rattle.std.proofs.Common.{refl}
+use Rattle.rules.specs.Applied.{no_request}
+use Rattle.pws.proofs.nothing.Goals as goal
+
+pub returns : goal.returns
+unfolding no_request
+returns c = refl
