@@ -2,7 +2,7 @@
 use mathlib.Core.Path.{◌≡◌, sym}
 use mathlib.Core.Bool.{true, false}
 use mathlib.Core.List.{List, [], ◌∷◌, flat_map}
-use Prim.Native.Nat.{ℕ, ◌+◌, ◌-◌, ◌*◌, ◌<◌, ◌≤◌}
+use Prim.Native.Nat.{ℕ, ◌+◌, ◌*◌, ◌<◌, ◌≤◌}
 use native.Mathlib.Omega.{arith}
 use lib.ListN.{length}
 use lib.Seq.{sets}
@@ -18,7 +18,7 @@ use Rattle.rules.specs.declared.Writing.TheVariants.{Written, Unwritten}
 use Rattle.rules.proofs.AnswerCodec.{length-answer_head, length-answer_bytes}
 use Rattle.formats.specs.Format.{Found, nothing, found}
 use Rattle.aper.specs.Elements.{Element}
-use Rattle.wire.specs.Cells.{Entry, list}
+use Rattle.wire.specs.Cells.{Entry}
 use Rattle.wire.specs.MessageSaid.{rows_in}
 use Rattle.wire.specs.declared.Message.{Message}
 use Rattle.wire_judge.specs.Account.{list_at, entries_in, account_by, WholeList, Lies}

@@ -1,5 +1,6 @@
--- `nothing` is the request that a refused record gives, field by field.
-use Rattle.std.proofs.Common.{refl}
+-- `nothing` is the request that a refused record gives.
+-- Field by field.
+use mathlib.Core.Path.{refl}
 use Rattle.rules.specs.Applied.{no_request}
 use Rattle.pws.proofs.nothing.Goals as goal
 

@@ -12,6 +12,7 @@ use borrow.Author.Rules.{rules}
 use Rattle.wire_cells.proofs.cell_at.Goals.{In-Of}
 use Rattle.wire_cells.proofs.cell_at.Goals as goal
 
+-- an entry whose length was found
 own : (c : In-Of) → OwnEntry c.args.m c.args.cells.now c.args.at
 own c = c.requires
 

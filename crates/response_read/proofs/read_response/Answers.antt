@@ -1,0 +1,43 @@
+-- `read_response` leaves what the definition of reading says: a refused message leaves nothing, and of a fit one the answer decides (`fit-taken`).
+use mathlib.Core.Path.{sym, ◌∙◌}
+use Rattle.octets.specs.Runs.{Bytes}
+use Rattle.rules.specs.declared.Writing.TheVariants.{Written, Unwritten}
+use Rattle.wire_judge.specs.Readers.{FitMessage}
+use Rattle.wire_judge.proofs.LentLaws.{lent-lies}
+use Rattle.response_judge.specs.Met.{seen_of}
+use Rattle.response_read.proofs.MeantLaws.{a-response}
+use Rattle.response_read.proofs.ResponseTakenLaws.{not_taken, fit-taken}
+use Rattle.response_read.proofs.read_response.Goals.{After-meant-m, In-Fine}
+use Rattle.response_read.proofs.read_response.Goals as goal
+
+-- which response is meant, and a message that was found fit
+bytes : (c : After-meant-m) → Bytes c.args.message.now
+bytes c = λ i. (c.shared_slice_known-1.given i).fits
+
+fit : (c : In-Fine) → FitMessage c.meant-m.result c.args.message.now c.in-Fine.start (seen_of c.in-Fine.met)
+fit c = rw c.in-Fine.is at c.judge.ensures
+
+pub judge-requires : goal.judge-requires
+judge-requires c = λ e. a-response _ (sym c.meant-m.ensures ∙ e)
+
+pub slice_bounds-put_answer-count : goal.slice_bounds-put_answer-count
+slice_bounds-put_answer-count c = (fit (goal.at.slice_bounds-put_answer-count c).In-Fine).begins
+
+pub slice_bounds-put_answer-start : goal.slice_bounds-put_answer-start
+slice_bounds-put_answer-start c = (fit (goal.at.slice_bounds-put_answer-start c).In-Fine).begins
+
+pub put_answer-requires : goal.put_answer-requires
+put_answer-requires c =
+    record { lies = lent-lies _ _ _ _ (fit (goal.at.put_answer-requires c).In-Fine); lacks_value = (fit (goal.at.put_answer-requires c).In-Fine).whole }
+
+pub returns-in-Unfit : goal.returns-in-Unfit
+returns-in-Unfit c =
+    not_taken _ _ (bytes (goal.at.returns-in-Unfit c).After-meant-m) c.meant-m.ensures _ _ (rw c.in-Unfit.is at c.judge.ensures)
+
+pub returns-in-Unwritten : goal.returns-in-Unwritten
+returns-in-Unwritten c =
+    fit-taken _ _ (bytes (goal.at.returns-in-Unwritten c).After-meant-m) c.meant-m.ensures _ _ (fit (goal.at.returns-in-Unwritten c).In-Fine) _ (Unwritten c.in-Unwritten.refusal) _ (rw c.in-Unwritten.is at c.put_answer.ensures)
+
+pub returns-in-Written : goal.returns-in-Written
+returns-in-Written c =
+    fit-taken _ _ (bytes (goal.at.returns-in-Written c).After-meant-m) c.meant-m.ensures _ _ (fit (goal.at.returns-in-Written c).In-Fine) _ (Written c.in-Written.length) _ (rw c.in-Written.is at c.put_answer.ensures)
