@@ -65,7 +65,7 @@ fn an_output_that_cannot_be_written_is_told() {
     }
 }
 
-/// The first implementation's program has no exit status to end with: it says so on standard error.
+/// The first implementation's program ends with status 0 all the same: it says so on standard error.
 #[test]
 fn the_first_program_tells_what_cannot_be_read_or_written() {
     let Ok(first) = env::var("PWS_REPORT") else {
