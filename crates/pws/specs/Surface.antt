@@ -1,4 +1,4 @@
--- What the results of the C functions, with the buffers that they leave, say.
+-- What the results of the surface's functions, with the buffers that they leave, say.
 use Rattle.std.specs.Prelude.{List, ℕ}
 use Rattle.rules.specs.Refusals.{number_of, writing_number, writing_length}
 use Rattle.rules.specs.Applied.{Filled, ReadOutcome, Outcome}
