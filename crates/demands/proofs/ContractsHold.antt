@@ -1,7 +1,12 @@
 -- The contracts of pws's functions ask for nothing, are met, say the promises, and admit one outcome only.
 -- The first and the last by what each contract says; that the code meets it is the function's own theorem.
+use mathlib.Core.Path.{◌≡◌}
+use mathlib.Core.List.{List}
+use Prim.Native.Nat.{ℕ}
 use Rattle.octets.proofs.Once.{one-outcome}
-use Rattle.pws.proofs.OnceLaws.{filled_once, left_once, taken_once}
+use Rattle.pws.specs.Surface.{filled, left, taken}
+use Rattle.pws.specs.declared.PwsDone.{PwsDone}
+use Rattle.pws.specs.declared.PwsMessage.{PwsMessage}
 use Rattle.demands.specs.EntryPoints.{AsksNothing, CodeMeets, LearnsPromises, Contracts, OneOutcome}
 use Rattle.pws.proofs.pws_build.Met as build
 use Rattle.pws.proofs.pws_convert.Met as convert
@@ -67,6 +72,16 @@ pub contracts_hold : Contracts
 contracts_hold = record { asks_nothing = asks_nothing; code_meets = code_meets; learns_promises = learns_promises }
 
 -- ---- one outcome only: each promise is an equation between all of it and a definition
+
+-- what says the same of one buffer, and of two, is the same
+filled_once : (d e : PwsDone) (a b : List ℕ) → filled d a ≡ filled e b → ◌≡◌ {A = PwsDone × List ℕ} (d, a) (e, b)
+filled_once d e a b p i = (record { number = (p i).number; length = (p i).length }, (p i).buffer)
+
+left_once : (d e : PwsDone) (a x b y : List ℕ) → left d a x ≡ left e b y → ◌≡◌ {A = PwsDone × List ℕ × List ℕ} (d, a, x) (e, b, y)
+left_once d e a x b y p i = (record { number = (p i).number; length = (p i).length }, (p i).table, (p i).answer)
+
+taken_once : (m n : PwsMessage) (a b : List ℕ) → taken m a ≡ taken n b → ◌≡◌ {A = PwsMessage × List ℕ} (m, a) (n, b)
+taken_once m n a b p i = (record { number = (p i).number; transaction = (p i).transaction; length = (p i).length }, (p i).buffer)
 
 pub one-outcome-only : OneOutcome
 one-outcome-only =

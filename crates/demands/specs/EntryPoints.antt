@@ -15,7 +15,7 @@ use Rattle.pws.proofs.pws_build.Statement as build-code
 use Rattle.pws.proofs.pws_convert.Reads as convert
 use Rattle.pws.proofs.pws_convert.Statement as convert-code
 use Rattle.pws.proofs.pws_apply.Reads as apply
-use Rattle.pws.proofs.pws_apply.Statement as apply_code
+use Rattle.pws.proofs.pws_apply.Statement as apply-code
 use Rattle.pws.proofs.pws_read.Reads as read
 use Rattle.pws.proofs.pws_read.Statement as read-code
 use Rattle.pws.proofs.pws_write.Reads as write
@@ -59,7 +59,7 @@ pub record AsksNothing : Type 0 where
 pub record CodeMeets : Type 2 where
   pub build_meets : {M : Type 1} → build-code.statement M
   pub convert_meets : {M : Type 1} → convert-code.statement M
-  pub apply_meets : {M : Type 1} → apply_code.statement M
+  pub apply_meets : {M : Type 1} → apply-code.statement M
   pub read_meets : {M : Type 1} → read-code.statement M
   pub write_meets : {M : Type 1} → write-code.statement M
   pub item_meets : {M : Type 1} → item-code.statement M

@@ -1,2 +1,1 @@
-pub mod EntryPoints
-pub mod ContractsHold
+pub mod Exported

@@ -106,7 +106,7 @@ fn step(
     out: &mut [u8],
 ) -> Stand
     requires standing { Standing s (length input.old) (length table.old) (length answer.old) (length out.old) }
-    requires most_cells_in_bounds { heads_end most_cells ≤ length input.old }
+    requires room_for_input { heads_end most_cells ≤ length input.old }
     ensures { result.stops ≡ false → Standing result (length input.new) (length table.new) (length answer.new) (length out.new) }
 {
     let told = turn(s, input, table, answer, out);
@@ -125,10 +125,10 @@ fn step(
 
 // A proved loop has to end, and nothing says that the input does. So it counts its turns down, from a number that no run uses up.
 fn run(rt: HostRuntime, input: &mut [u8], table: &mut [u8], answer: &mut [u8], out: &mut [u8])
-    requires most_cells_in_bounds { heads_end most_cells ≤ length input.old }
-    requires most_cells_in_bounds_2 { table_size most_cells ≤ length table.old }
-    requires most_cells_in_bounds_3 { answer_room most_cells ≤ length answer.old }
-    requires most_text_in_bounds { most_text ≤ length out.old }
+    requires room_for_input { heads_end most_cells ≤ length input.old }
+    requires room_for_table { table_size most_cells ≤ length table.old }
+    requires room_for_answer { answer_room most_cells ≤ length answer.old }
+    requires room_for_text { most_text ≤ length out.old }
 {
     let mut s = start();
     let mut turns = u64::MAX;

@@ -122,8 +122,8 @@ fn put_row(out: &mut [u8], at: usize, row: Row) -> usize
 
 // The rows of an answer, a line each.
 fn put_rows(out: &mut [u8], at: usize, answer: &[u8], rows: usize) -> usize
-    requires rows_in_bounds { at + longest_row * rows ≤ length out.old }
-    requires rows_in_bounds_2 { answer_size current + row_size current * rows ≤ length answer.now }
+    requires room_for_text { at + longest_row * rows ≤ length out.old }
+    requires rows_there { answer_size current + row_size current * rows ≤ length answer.now }
     ensures said { Said out.old at (flat_map row_text (map (row_of current) (pieces (row_size current) rows (drop (answer_size current) answer.now)))) out.new result }
     ensures upper_bound { result ≤ at + longest_row * rows }
 {
@@ -138,8 +138,8 @@ fn put_rows(out: &mut [u8], at: usize, answer: &[u8], rows: usize) -> usize
 
 // An answer: "ok KIND ROWS" and its rows.
 pub fn put_answer(out: &mut [u8], at: usize, answer: &[u8]) -> usize
-    requires answer_in_bounds { answer_size current + row_size current * row_count current answer.now ≤ length answer.now }
-    requires answer_in_bounds_2 { at + (most_places + most_places + 5 + longest_row * row_count current answer.now) ≤ length out.old }
+    requires rows_there { answer_size current + row_size current * row_count current answer.now ≤ length answer.now }
+    requires room_for_text { at + (most_places + most_places + 5 + longest_row * row_count current answer.now) ≤ length out.old }
     ensures said { Said out.old at (answer_text (answer_of current answer.now)) out.new result }
     ensures upper_bound { result ≤ at + (most_places + most_places + 5 + longest_row * row_count current answer.now) }
 {

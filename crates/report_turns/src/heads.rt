@@ -77,8 +77,8 @@ fn without_heads(never: bool, out: &mut [u8], at: usize) -> Took
 // The table is built at the start of its buffer, with all heads at hand.
 fn build_table(heads: &[u8], cells: usize, table: &mut [u8], out: &mut [u8], at: usize) -> Took
     requires cells_le_most_cells { cells ≤ most_cells }
-    requires most_cells_in_bounds { table_size most_cells ≤ length table.old }
-    requires most_text_in_bounds { at + most_text ≤ length out.old }
+    requires room_for_table { table_size most_cells ≤ length table.old }
+    requires room_for_text { at + most_text ≤ length out.old }
     ensures { (a : List ℕ) → answer_room most_cells ≤ length a → Stepped (opened cells (program_in 0 table.old a) (built heads.now (take (table_size cells) table.old))) table.old a out.old at result table.new a out.new }
 {
     if let Writing::Unwritten(refusal) = build(heads, &mut table[..HEADER + CELL * cells]) {
@@ -94,8 +94,8 @@ fn build_table(heads: &[u8], cells: usize, table: &mut [u8], out: &mut [u8], at:
 }
 
 pub fn open_table(held: &[u8], ended: bool, table: &mut [u8], out: &mut [u8], at: usize) -> Took
-    requires most_cells_in_bounds { table_size most_cells ≤ length table.old }
-    requires most_text_in_bounds { at + most_text ≤ length out.old }
+    requires room_for_table { table_size most_cells ≤ length table.old }
+    requires room_for_text { at + most_text ≤ length out.old }
     ensures { (a : List ℕ) → answer_room most_cells ≤ length a → Stepped (opens ended (program_in 0 table.old a) held.now) table.old a out.old at result table.new a out.new }
 {
     let n = cells_there(held);

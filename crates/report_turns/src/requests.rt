@@ -21,7 +21,7 @@ pub fn serve_next(
     at: usize,
 ) -> Took
     requires to_take { ToTake cells (length table.old) (length answer.old) (length out.old) at }
-    requires fact { cells ≡ 0 → ⊥ }
+    requires table_open { cells ≡ 0 → ⊥ }
     ensures { Stepped (serves ended (program_in cells table.old answer.old) held.now) table.old answer.old out.old at result table.new answer.new out.new }
 {
     let size = frame(held, ended);

@@ -24,7 +24,7 @@ fn stops_at(number: u32) -> bool
 
 pub fn serve(table: &mut [u8], req: &[u8], answer: &mut [u8], out: &mut [u8], at: usize) -> Turn
     requires answer_len_bound { length answer.old ≤ answer_room most_cells }
-    requires most_text_in_bounds { at + most_text ≤ length out.old }
+    requires room_for_text { at + most_text ≤ length out.old }
     ensures served { Served table.old req.now answer.old out.old at table.new answer.new out.new result }
     ensures end_bound { result.end ≤ at + most_text }
 {

@@ -127,7 +127,7 @@ fn past(met: Met, criticality: u8, end: usize) -> Onward
 
 // The element at an index, and what was met with it.
 fn further(m: Message, s: &[u8], at: usize, met: Met) -> Onward
-    requires fact { m ≡ CancelRequest → ⊥ }
+    requires is_response { m ≡ CancelRequest → ⊥ }
     requires at_in_bounds { at ≤ length s.now }
     requires lies { Lies m s.now (seen_of met) }
     ensures { FurtherAt m s.now at met result }

@@ -4,5 +4,5 @@ use Rattle.rules.specs.Layout.{most_cells}
 use Rattle.report_turns.proofs.RoomLaws.{room_of}
 use Rattle.report.proofs.main.Goals as goal
 
-pub run-requires-clause-most_cells_in_bounds_3 : goal.run-requires-clause-most_cells_in_bounds_3
-run-requires-clause-most_cells_in_bounds_3 c = omega (arith, room_of most_cells)
+pub run-requires-clause-room_for_answer : goal.run-requires-clause-room_for_answer
+run-requires-clause-room_for_answer c = omega (arith, room_of most_cells)

@@ -17,7 +17,7 @@ loop-left-init c =
     (walk_start _ _ _ c.if-s-lt-FIRST_AT.false c.get8.ensures c.if-get8-ne0.false _ c.get16-left.ensures)
 
 pub further-requires : goal.further-requires
-further-requires c = record { fact = c.requires; at_in_bounds = c.loop-left.invariant.walking.within; lies = c.loop-left.invariant.lies }
+further-requires c = record { is_response = c.requires; at_in_bounds = c.loop-left.invariant.walking.within; lies = c.loop-left.invariant.lies }
 
 pub returns-in-Nowhere : goal.returns-in-Nowhere
 returns-in-Nowhere c =

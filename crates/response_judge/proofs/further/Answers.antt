@@ -43,4 +43,4 @@ returns-in-NoElement c = no-element _ _ _ _ c.requires.lies (rw c.in-NoElement.i
 pub returns-else-id-cells_id : goal.returns-else-id-cells_id
 returns-else-id-cells_id c =
     rw c.past.ensures
-    (other_met _ _ _ _ c.requires.lies _ _ _ _ (read (goal.at.returns-else-id-cells_id c).In-One) c.if-id-eq-TRANSACTION.false c.requires.fact (λ e. c.if-id-cells_id.false (e ∙ sym c.cells_id.ensures)))
+    (other_met _ _ _ _ c.requires.lies _ _ _ _ (read (goal.at.returns-else-id-cells_id c).In-One) c.if-id-eq-TRANSACTION.false c.requires.is_response (λ e. c.if-id-cells_id.false (e ∙ sym c.cells_id.ensures)))

@@ -36,7 +36,7 @@ loop-k-preserved c =
           (rows_from l.k rows a)
           (rows_from (l.k + 1) rows a)
           (rw c.row_at.ensures at p.said)
-          (rows_next l.k rows a c.loop-k-test.true c.requires.rows_in_bounds_2)
+          (rows_next l.k rows a c.loop-k-test.true c.requires.rows_there)
           l.invariant.come;
     }
 

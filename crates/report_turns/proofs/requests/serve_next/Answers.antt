@@ -27,7 +27,7 @@ pub returns-then-size-eq0 : goal.returns-then-size-eq0
 returns-then-size-eq0 c =
     let f = c.frame-size in
     let a = c.args in
-    nothing_stepped a.cells a.table.now a.answer.now a.out.now a.at (table_fits (goal.at.returns-then-size-eq0 c).Start) (answer-fits (goal.at.returns-then-size-eq0 c).Start) c.requires.fact
+    nothing_stepped a.cells a.table.now a.answer.now a.out.now a.at (table_fits (goal.at.returns-then-size-eq0 c).Start) (answer-fits (goal.at.returns-then-size-eq0 c).Start) c.requires.table_open
     a.held.now a.ended f.result f.ensures.value (omega arith)
 
 pub room_for-room-requires : goal.room_for-room-requires
@@ -53,7 +53,7 @@ serve-turn-requires c =
     let p = c.requires.to_take in
     let long = length-take-le c.room_for-room.result c.args.answer.now (room_fits (goal.at.serve-turn-requires c).After-room_for-room) in
     let most = room_of c.args.cells in
-    record { answer_len_bound = omega (arith, long, most, room_of most_cells, c.room_for-room.ensures, p.few); most_text_in_bounds = p.text-room }
+    record { answer_len_bound = omega (arith, long, most, room_of most_cells, c.room_for-room.ensures, p.few); room_for_text = p.text-room }
 
 pub returns : goal.returns
 returns c =
@@ -62,7 +62,7 @@ returns c =
     let s = c.serve-turn in
     let table-long = length-take-le (table_size a.cells) a.table.now (table_fits (goal.at.returns c).Start) in
     let answer-long = length-take-le c.room_for-room.result a.answer.now (room_fits (goal.at.returns c).After-room_for-room) in
-    request_stepped a.cells a.table.now a.answer.now a.out.now a.at (table_fits (goal.at.returns c).Start) (answer-fits (goal.at.returns c).Start) c.requires.fact
+    request_stepped a.cells a.table.now a.answer.now a.out.now a.at (table_fits (goal.at.returns c).Start) (answer-fits (goal.at.returns c).Start) c.requires.table_open
     a.held.now a.ended f.result f.ensures.value c.if-size-eq0.false c.room_for-room.result c.room_for-room.ensures
     s.new.table s.new.answer s.new.out s.result s.ensures.served s.ensures.end_bound
     (s.auto.table ∙ table-long) (s.auto.answer ∙ answer-long)

@@ -25,7 +25,7 @@ put_answer-end-requires c =
     written-lies c.args.table.now c.args.req.now c.args.answer.now (λ i. (c.slice_known-1.given i).fits) (λ i. (c.shared_slice_known-1.given i).fits)
     c.apply.result c.in-Written.length c.apply.new.table c.apply.new.answer c.apply.ensures c.in-Written.is in
     let few = rows_fit lies (rw c.apply.auto.answer c.requires.answer_len_bound) in
-    record { answer_in_bounds = omega (arith, lies.size, lies.whole); answer_in_bounds_2 = omega (arith, few, c.requires.most_text_in_bounds) }
+    record { rows_there = omega (arith, lies.size, lies.whole); room_for_text = omega (arith, few, c.requires.room_for_text) }
 
 pub returns-in-Written : goal.returns-in-Written
 returns-in-Written c =
