@@ -1,5 +1,6 @@
 -- Every answer that is not refused is given by some table and request.
 -- By its kind, a request and the live places of a cell that make it tell a row; with a cell for each row, the answer told is the answer.
+use Rattle.std.specs.Prelude.{Ok}
 use mathlib.Core.Path.{◌≡◌, refl, sym, ap, ◌∙◌}
 use mathlib.Core.Bool.{true}
 use mathlib.Core.List.{List, [], ◌∷◌, flat_map}
@@ -17,7 +18,6 @@ use Rattle.rules.specs.Refusals.{request_verdict}
 use Rattle.rules.specs.Sound.{fit_request, sound_places, sound_cells}
 use Rattle.rules.specs.declared.Request.{Request}
 use Rattle.rules.specs.declared.Place.{Place}
-use Rattle.rules.specs.declared.Verdict.TheVariants.{Accepted}
 use Rattle.rules.proofs.AllLaws.{All, none, more, all_imply, all_both, all_of}
 use Rattle.rules.proofs.FitLaws.{Fit-fits}
 use Rattle.rules.proofs.SoundPlaceLaws.{fits-at, none-sound}
@@ -40,7 +40,7 @@ record Giver (a : Answer) : Type 0 where
   serial : request.serial ≡ a.serial
   everywhere : request.area ≡ no_area
   fit : fit_request request ≡ true
-  allowed : request_verdict (longest_period current) request [] ≡ Accepted
+  allowed : request_verdict (longest_period current) request [] ≡ Ok tt
   sound : All (λ w. sound_places current (places w) ≡ true) a.reply.rows
   tells : All (λ w. (in_cell request (places w)).rows ≡ reported w.count) a.reply.rows
   idle : a.reply.rows ≡ [] → (in_cell request []).rows ≡ []

@@ -1,5 +1,6 @@
 -- The requests that give the rows of an answer: a Write-Replace on cells without a live place, or a Cancel on cells that have its text live with the row's count.
 -- Without rows the Write-Replace asks for no broadcast, which the zero rules stop. Each request is allowed, and computes to what it tells.
+use Rattle.std.specs.Prelude.{Ok}
 use mathlib.Core.Path.{◌≡◌, refl}
 use mathlib.Core.Bool.{true}
 use mathlib.Core.List.{[], ◌∷◌, flat_map}
@@ -15,7 +16,6 @@ use Rattle.rules.specs.Refusals.{request_verdict}
 use Rattle.rules.specs.Sound.{fits, fit_request, sound_places}
 use Rattle.rules.specs.declared.Request.{Request}
 use Rattle.rules.specs.declared.Place.{Place}
-use Rattle.rules.specs.declared.Verdict.TheVariants.{Accepted}
 use Rattle.rules.proofs.SoundPlaceLaws.{facts_sound, one-sound}
 
 module _ (identifier serial : ℕ) where
@@ -57,11 +57,11 @@ module _ (identifier serial : ℕ) where
 
   -- ---- allowed
 
-  pub start-allowed : (requested : ℕ) → request_verdict (longest_period current) (starting requested) [] ≡ Accepted
+  pub start-allowed : (requested : ℕ) → request_verdict (longest_period current) (starting requested) [] ≡ Ok tt
   unfolding request_verdict kind_allows allowed one_of any zeros every area_fits within_limits cancels_nothing
   start-allowed requested = refl
 
-  pub cancel-allowed : request_verdict (longest_period current) cancelling [] ≡ Accepted
+  pub cancel-allowed : request_verdict (longest_period current) cancelling [] ≡ Ok tt
   unfolding request_verdict kind_allows allowed one_of any zeros every area_fits within_limits cancels_nothing
   cancel-allowed = refl
 

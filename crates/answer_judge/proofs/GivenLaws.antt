@@ -1,5 +1,6 @@
 -- A request and sound cells give an answer: the table of these cells, the record of this request without items, and a buffer of zeros that is just long enough.
 -- The table and the record say what they were made of, so the call is accepted, and what it is told is the reply of these cells.
+use Rattle.std.specs.Prelude.{Ok}
 use mathlib.Core.Path.{◌≡◌, ◌∙◌}
 use mathlib.Core.Bool.{true}
 use mathlib.Core.List.{List, [], flat_map}
@@ -20,7 +21,6 @@ use Rattle.rules.specs.Refusals.{request_verdict, apply_verdict}
 use Rattle.rules.specs.Applied.{answered}
 use Rattle.rules.specs.Sound.{fit_request, sound_cells}
 use Rattle.rules.specs.declared.Request.{Request}
-use Rattle.rules.specs.declared.Verdict.TheVariants.{Accepted}
 use Rattle.rules.proofs.FitLaws.{fits-Fit}
 use Rattle.rules.proofs.VerdictLaws.{apply_chain}
 use Rattle.rules.proofs.AcceptedRecordLaws.{accepted-record}
@@ -29,7 +29,7 @@ use Rattle.rules.proofs.RecordTrips.{items-read, record-written, request-read}
 use Rattle.rules.proofs.AnsweredLaws.{applied-told}
 use Rattle.answer_judge.specs.Answerable.{is_wired, GivenBy}
 
-module _ (q : Request) (cells : List Cell) (fit : fit_request q ≡ true) (allowed : request_verdict (longest_period current) q [] ≡ Accepted) (sound : sound_cells current cells ≡ true) where
+module _ (q : Request) (cells : List Cell) (fit : fit_request q ≡ true) (allowed : request_verdict (longest_period current) q [] ≡ Ok tt) (sound : sound_cells current cells ≡ true) where
   abbrev table : List ℕ
   table = table_bytes current cells
 
@@ -46,7 +46,7 @@ module _ (q : Request) (cells : List Cell) (fit : fit_request q ≡ true) (allow
   unfolding record_bytes fit_request flat_map
   asked-bytes = bytes_append (bytes_of record_fields (request_numbers q 0)) [] (bytes_bytes_of record_fields (request_numbers q 0) (fits-Fit record_fields (request_numbers q 0) fit)) (λ i. omega arith)
 
-  table_taken : apply_verdict current table asked (length buffer) ≡ Accepted
+  table_taken : apply_verdict current table asked (length buffer) ≡ Ok tt
   table_taken =
       let room : room_for current (request_of asked).kind (cell_count table) ≤ length buffer =
       rw (asked-request, count-table_bytes current cells sound, length-replicate {A = ℕ} (room_for current q.kind (length cells)) 0) (omega arith) in

@@ -1,5 +1,6 @@
 -- No answer to an accepted Write-Replace or Cancel is refused.
 -- Such an answer is legal and reads back as what was told. A cell tells one row at most, so there are no more than cells and they ascend strictly; a start is told with count 0.
+use Rattle.std.specs.Prelude.{Ok}
 use mathlib.Core.Path.{◌≡◌, refl}
 use mathlib.Core.Bool.{true, false≢true}
 use mathlib.Core.List.{List, [], ◌∷◌, map, flat_map}
@@ -19,7 +20,6 @@ use Rattle.rules.specs.Refusals.{request_verdict, apply_verdict}
 use Rattle.rules.specs.Applied.{answered, applied}
 use Rattle.rules.specs.Sound.{fit_request, sound_cell}
 use Rattle.rules.specs.declared.Request.{Request}
-use Rattle.rules.specs.declared.Verdict.TheVariants.{Accepted}
 use Rattle.rules.proofs.TestLaws.{cond_either}
 use Rattle.rules.proofs.AllLaws.{all_every, every_all, all_imply}
 use Rattle.rules.proofs.ListsLaws.{every-flat_map}
@@ -68,14 +68,14 @@ one-row kind w = wired_by kind w (λ k. rw k) (λ k. rw k)
 
 -- ---- an accepted call
 
-module _ (t r a : List ℕ) (bt : Bytes t) (br : Bytes r) (e : apply_verdict current t r (length a) ≡ Accepted) (wired : is_wired (kind_of (request_of r).kind) ≡ true) where
+module _ (t r a : List ℕ) (bt : Bytes t) (br : Bytes r) (e : apply_verdict current t r (length a) ≡ Ok tt) (wired : is_wired (kind_of (request_of r).kind) ≡ true) where
   call : AcceptedCall current t r (length a)
   call = call_accepted current t r (length a) e
 
   fit : fit_request (request_of r) ≡ true
   fit = record-fits current r br (record-accepted current r call.req)
 
-  allowed : request_verdict (longest_period current) (request_of r) (items_of r) ≡ Accepted
+  allowed : request_verdict (longest_period current) (request_of r) (items_of r) ≡ Ok tt
   allowed = within-own current r (record-accepted current r call.req)
 
   cells : SoundCells current (cells_of current t)

@@ -1,5 +1,5 @@
 -- Document 02, 6/13: bytes that an accepted Write-Replace or Cancel can have as its answer under some table, and no others.
-use Rattle.std.specs.Prelude.{◌≡◌, Bool, true, false, ◌&&◌, List, ℕ, eqb, leb, length, take}
+use Rattle.std.specs.Prelude.{◌≡◌, Bool, true, false, ◌&&◌, List, ℕ, eqb, leb, length, take, Ok}
 use Rattle.octets.specs.Runs.{Bytes}
 use Rattle.rules.specs.Lists.{every, ascending}
 use Rattle.rules.specs.Layout.{current, most_cells}
@@ -8,7 +8,6 @@ use Rattle.rules.specs.Reply.{Row, identities}
 use Rattle.rules.specs.Answer.{row_count, answer_of, legal_answer}
 use Rattle.rules.specs.Refusals.{apply_verdict}
 use Rattle.rules.specs.Applied.{Outcome, applied}
-use Rattle.rules.specs.declared.Verdict.TheVariants.{Accepted}
 
 -- the requests that are answered on the wire
 abbrev pub is_wired : Kind → Bool
@@ -51,13 +50,13 @@ pub record GivenBy (b : List ℕ) : Type 0 where
   pub buffer : List ℕ
   pub table-bytes : Bytes table
   pub bytes : Bytes asked
-  pub accepted : apply_verdict current table asked (length buffer) ≡ Accepted
+  pub accepted : apply_verdict current table asked (length buffer) ≡ Ok tt
   pub wired : is_wired (kind_of (request_of asked).kind) ≡ true
   pub gives : answer_left (applied current table asked buffer) ≡ b
 
 pub record ExactAnswers : Type 0 where
   -- no answer to an accepted Write-Replace or Cancel is refused
-  pub none-refused : (t r a : List ℕ) → Bytes t → Bytes r → apply_verdict current t r (length a) ≡ Accepted → is_wired (kind_of (request_of r).kind) ≡ true
+  pub none-refused : (t r a : List ℕ) → Bytes t → Bytes r → apply_verdict current t r (length a) ≡ Ok tt → is_wired (kind_of (request_of r).kind) ≡ true
       → answerable (answer_left (applied current t r a)) ≡ true
   -- and every one that is not refused is given by some table and request
   pub all_given : (b : List ℕ) → Bytes b → answerable b ≡ true → GivenBy b

@@ -1,5 +1,6 @@
 -- What the converter leaves, if it returns 0: the old table, converted, at the start of the lent buffer, and the bytes behind it as they were.
 -- The number 0 says that its tests were passed; the rest is that of a buffer that is filled and of a converted table (rules, OlderLaws and ConvertedLaws).
+use Rattle.std.specs.Prelude.{Ok}
 use mathlib.Core.Path.{◌≡◌, refl, sym, ap, ◌∙◌}
 use mathlib.Core.List.{List}
 use Prim.Native.Nat.{ℕ, ◌+◌, ◌*◌, ◌≤◌}
@@ -14,7 +15,6 @@ use Rattle.rules.specs.Table.{cell_count, own_version}
 use Rattle.rules.specs.Refusals.{older_verdict, convert_verdict}
 use Rattle.rules.specs.Applied.{Filled, fill, converted, conversion}
 use Rattle.rules.specs.declared.Refusal.TheVariants.{ShortBuffer}
-use Rattle.rules.specs.declared.Verdict.TheVariants.{Accepted}
 use Rattle.rules.proofs.VerdictLaws.{then_accepted, unless_accepted, convert_chain}
 use Rattle.rules.proofs.OutcomeLaws.{fill-accepted}
 use Rattle.rules.proofs.OlderLaws.{OlderTable, older-table}
@@ -30,12 +30,12 @@ module _ (old table : List ℕ) where
     own : OlderTable old
     room : header_size + cell_size current * cell_count old ≤ length table
 
-  passed : convert_verdict old (length table) ≡ Accepted → Passed
+  passed : convert_verdict old (length table) ≡ Ok tt → Passed
   passed e =
       let a = then_accepted (older_verdict old) _ (sym (convert_chain old (length table)) ∙ e) in
       record { own = older-table old a.0; room = leb-true _ (length table) (unless_accepted _ ShortBuffer a.1) }
 
-  of_converted : Bytes old → convert_verdict old (length table) ≡ Accepted → (d : PwsDone) (table' : List ℕ) → d.length ≡ length (converted old) → table' ≡ sets table 0 (converted old)
+  of_converted : Bytes old → convert_verdict old (length table) ≡ Ok tt → (d : PwsDone) (table' : List ℕ) → d.length ≡ length (converted old) → table' ≡ sets table 0 (converted old)
       → Carried old table d table'
   of_converted bytes e d table' n w =
       let p = passed e in
@@ -59,5 +59,5 @@ pub carried : (old table : List ℕ) → Bytes old → (d : PwsDone) (table' : L
 unfolding conversion fill
 carried old table bytes d table' p z =
     let e = fill-accepted (convert_verdict old (length table)) (converted old) table (sym (ap (λ (f : Filled). f.number) p) ∙ z) in
-    let w : filled d table' ≡ fill Accepted (converted old) table = p ∙ ap (λ v. fill v (converted old) table) e in
+    let w : filled d table' ≡ fill (Ok tt) (converted old) table = p ∙ ap (λ v. fill v (converted old) table) e in
     of_converted old table bytes e d table' (ap (λ (f : Filled). f.length) w) (ap (λ (f : Filled). f.buffer) w)

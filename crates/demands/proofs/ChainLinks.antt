@@ -1,5 +1,6 @@
 -- What the first two links leave where both were accepted: the record of the message's Cancel, and an answer that can be given, which reads as the rows of the cells.
 -- By what a taken message leaves (WireCancelHolds) and by what an accepted call is told (rules, AnsweredLaws).
+use Rattle.std.specs.Prelude.{Ok}
 use mathlib.Core.Path.{◌≡◌, sym, ap, ap₂, ◌∙◌}
 use mathlib.Core.Bool.{true}
 use mathlib.Core.List.{List, map, flat_map}
@@ -22,7 +23,6 @@ use Rattle.rules.specs.Refusals.{apply_verdict}
 use Rattle.rules.specs.Applied.{reading, read_of, step_cell, answered, applied}
 use Rattle.rules.specs.Sound.{fits, fit_request}
 use Rattle.rules.specs.declared.Request.{Request}
-use Rattle.rules.specs.declared.Verdict.TheVariants.{Accepted}
 use Rattle.rules.proofs.AllLaws.{all_map, all_imply, bytes-flat_map_all}
 use Rattle.rules.proofs.FitLaws.{fits-Fit}
 use Rattle.rules.proofs.OutcomeLaws.{read-accepted, applied-accepted}
@@ -90,7 +90,7 @@ module _ {message buffer table answer response back : List ℕ} (links : Chain m
     asked-request : request_of asked ≡ cancel_request c
     asked-request = request_of_lem asked (cancel_request c) (length (named c)) record-taken.reads
 
-    accepted : apply_verdict current table asked (length answer) ≡ Accepted
+    accepted : apply_verdict current table asked (length answer) ≡ Ok tt
     accepted = applied-accepted current table asked answer (sym (number-left links.did) ∙ went.was_done)
 
     pub cells-sound : SoundCells current (cells_of current table)

@@ -6,9 +6,8 @@ use Prim.Native.Nat.{ℕ}
 use lib.ListN.{length}
 use Rattle.rules.specs.Layout.{current}
 use Rattle.rules.specs.Record.{request_of, items_of}
-use Rattle.rules.specs.Refusals.{verdict_number}
+use Rattle.rules.specs.Refusals.{verdict_number, Verdict}
 use Rattle.rules.specs.Applied.{Filled, built, conversion, written, read_of, item_at, applied}
-use Rattle.rules.specs.declared.Verdict.{Verdict}
 use Rattle.rules.proofs.VerdictLaws.{write_chain, apply_chain, convert_chain, build_chain}
 use Rattle.rules.proofs.OutcomeLaws.{built-refused, conversion-refused, written-refused, read-refused, applied-refused}
 use Rattle.segments.specs.Segments.{lies_at, pack_verdict, packed}

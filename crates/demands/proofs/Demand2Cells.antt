@@ -1,5 +1,6 @@
 -- Demand 2, of the table: an accepted call changes the reached cells by their rule and nothing else.
 -- The cells' bytes afterwards are known as a whole list (rules, AppliedLaws); here each is picked out of it.
+use Rattle.std.specs.Prelude.{Ok}
 use mathlib.Core.Path.{◌≡◌, sym, ap, ◌∙◌}
 use mathlib.Core.Bool.{true, false}
 use mathlib.Core.List.{List, [], map}
@@ -12,7 +13,6 @@ use Rattle.rules.specs.Table.{cell_of, cell_bytes, cell_count, cell_runs, cells_
 use Rattle.rules.specs.Record.{request_of, items_of}
 use Rattle.rules.specs.Refusals.{table_verdict, apply_verdict}
 use Rattle.rules.specs.Applied.{step_cell, cell_after, applied}
-use Rattle.rules.specs.declared.Verdict.TheVariants.{Accepted}
 use Rattle.rules.proofs.TestLaws.{by_test}
 use Rattle.rules.proofs.AllLaws.{all_at}
 use Rattle.rules.proofs.MapLaws.{get_or-map_lem}
@@ -24,8 +24,8 @@ use Rattle.rules.proofs.AcceptedCallLaws.{call_accepted}
 use Rattle.rules.proofs.AppliedRuns.{table_of_runs}
 use Rattle.demands.specs.Demand2.{cell_at, reached, ruled, TableChanged}
 
-module _ (t r a : List ℕ) (bt : Bytes t) (br : Bytes r) (e : apply_verdict current t r (length a) ≡ Accepted) where
-  legal : table_verdict current t ≡ Accepted
+module _ (t r a : List ℕ) (bt : Bytes t) (br : Bytes r) (e : apply_verdict current t r (length a) ≡ Ok tt) where
+  legal : table_verdict current t ≡ Ok tt
   legal = (call_accepted current t r (length a) e).table
 
   -- ---- one cell

@@ -1,5 +1,6 @@
 -- Demand 2 holds: an accepted call changes the reached cells by their rule and nothing else, and reports them in order.
 -- What is told of the cells is one decoded answer, whose bytes stand in the buffer and read back as it (rules, AnsweredLaws); the table is Demand2Cells.
+use Rattle.std.specs.Prelude.{Ok}
 use mathlib.Core.Path.{◌≡◌, refl, sym, ap, ◌∙◌}
 use mathlib.Core.List.{List}
 use Prim.Native.Nat.{ℕ, ◌+◌, ◌*◌}
@@ -11,7 +12,6 @@ use Rattle.rules.specs.Record.{request_of, items_of}
 use Rattle.rules.specs.Reply.{Row, reply_of}
 use Rattle.rules.specs.Refusals.{table_verdict, apply_verdict}
 use Rattle.rules.specs.Applied.{Outcome, answered, applied}
-use Rattle.rules.specs.declared.Verdict.TheVariants.{Accepted}
 use Rattle.rules.proofs.TableCodec.{table-back}
 use Rattle.rules.proofs.LegalTableLaws.{table-accepted}
 use Rattle.rules.proofs.StepLaws.{rows-reached, rows_unreached}
@@ -27,8 +27,8 @@ use Rattle.demands.proofs.Demand2Records.{read_again, read_back}
 use Rattle.demands.proofs.Demand2Once.{served_once}
 use Rattle.demands.proofs.NumberLaws.{accepted-number}
 
-module _ (t r a : List ℕ) (bt : Bytes t) (br : Bytes r) (e : apply_verdict current t r (length a) ≡ Accepted) where
-  legal : table_verdict current t ≡ Accepted
+module _ (t r a : List ℕ) (bt : Bytes t) (br : Bytes r) (e : apply_verdict current t r (length a) ≡ Ok tt) where
+  legal : table_verdict current t ≡ Ok tt
   legal = (call_accepted current t r (length a) e).table
 
   -- ---- the answer
@@ -83,7 +83,7 @@ served t r a bt br =
 of_promised : (t r a : List ℕ) → Bytes t → Bytes r → (o : Outcome) → o ≡ applied current t r a → Served t r a o
 of_promised t r a bt br o p = rw p (served t r a bt br)
 
-once : (u : CallUnit) → MeetsDemand2 u → (t r a : List ℕ) → Bytes t → Bytes r → apply_verdict current t r (length a) ≡ Accepted → u t r a ≡ applied current t r a
+once : (u : CallUnit) → MeetsDemand2 u → (t r a : List ℕ) → Bytes t → Bytes r → apply_verdict current t r (length a) ≡ Ok tt → u t r a ≡ applied current t r a
 once u m t r a bt br e =
     let x = m t r a bt br in
     let y = served t r a bt br in

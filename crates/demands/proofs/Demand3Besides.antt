@@ -1,5 +1,6 @@
 -- Acceptance and reach are the same at any time of a run, so `Meet` may read both off the first table; and an accepted second reaches every cell.
 -- The number follows from the verdict, which stays; heads stay under every call; the table of kinds allows a second no area.
+use Rattle.std.specs.Prelude.{Ok, Err}
 use mathlib.Core.Path.{◌≡◌, refl, sym, ap, ◌∙◌}
 use mathlib.Core.List.{List, map, map-map}
 use Prim.Native.Nat.{ℕ}
@@ -8,10 +9,8 @@ use Rattle.rules.specs.Layout.{current}
 use Rattle.rules.specs.Table.{cells_of}
 use Rattle.rules.specs.Record.{request_of, items_of}
 use Rattle.rules.specs.Reach.{reaches}
-use Rattle.rules.specs.Refusals.{verdict_number, apply_verdict}
+use Rattle.rules.specs.Refusals.{verdict_number, apply_verdict, Verdict}
 use Rattle.rules.specs.Applied.{outcome, applied}
-use Rattle.rules.specs.declared.Verdict.{Verdict}
-use Rattle.rules.specs.declared.Verdict.TheVariants.{Accepted, Refused}
 use Rattle.rules.proofs.KindAreaLaws.{second-area}
 use Rattle.rules.proofs.VerdictLaws.{request-accepted}
 use Rattle.rules.proofs.AcceptedRecordLaws.{record-accepted}
@@ -26,8 +25,8 @@ unfolding applied outcome
 number_of u c = go (apply_verdict current u c.req (length c.answer))
   where
     go : (v : Verdict) → (outcome current v (request_of c.req) (items_of c.req) u c.answer).number ≡ verdict_number v
-    go Accepted = refl
-    go (Refused x) = refl
+    go (Ok tt) = refl
+    go (Err x) = refl
 
 pub accepted_anywhere : AcceptedAnywhere
 accepted_anywhere t bytes legal before c =

@@ -1,5 +1,6 @@
 -- Demand 3 holds of `applied`: another order that keeps each two accepted calls with a common cell leaves the same table and gives each call the same result.
 -- Cell by cell: the calls that touch a cell meet one another, so their order is kept, and what does not touch it does not count.
+use Rattle.std.specs.Prelude.{Ok, Err}
 use mathlib.Core.Path.{◌≡◌, refl, sym, ap, ◌∙◌}
 use mathlib.Core.Bool.{true, false}
 use mathlib.Core.Option.{Option, none, some}
@@ -11,9 +12,7 @@ use Rattle.octets.specs.Runs.{Bytes}
 use Rattle.rules.specs.Layout.{current}
 use Rattle.rules.specs.Table.{Head, Cell, cells_of, table_bytes}
 use Rattle.rules.specs.Record.{request_of, items_of}
-use Rattle.rules.specs.Refusals.{table_verdict}
-use Rattle.rules.specs.declared.Verdict.{Verdict}
-use Rattle.rules.specs.declared.Verdict.TheVariants.{Accepted, Refused}
+use Rattle.rules.specs.Refusals.{table_verdict, Verdict}
 use Rattle.rules.proofs.MapLaws.{flat_map-map}
 use Rattle.rules.proofs.TestLaws.{both, by_test}
 use Rattle.rules.proofs.AllLaws.{map_all, flat_map_all}
@@ -25,9 +24,9 @@ use Rattle.demands.proofs.Positions.{position_some, all_positions, place_in, ori
 use Rattle.demands.proofs.OneCall.{takes, reaches_head, rows_in, rows_of, verdict, touches, untouched, steps, cell_before}
 use Rattle.demands.proofs.Runs.{run-goes, cells-before, cells-after, table-after, result_same, result_at}
 
-takes_accepted : (v : Verdict) → takes v ≡ true → v ≡ Accepted
-takes_accepted Accepted e = refl
-takes_accepted (Refused x) e = let z : ◌≡◌ {A = ℕ} 0 1 = cc in absurd (omega arith)
+takes_accepted : (v : Verdict) → takes v ≡ true → v ≡ Ok tt
+takes_accepted (Ok tt) e = refl
+takes_accepted (Err x) e = let z : ◌≡◌ {A = ℕ} 0 1 = cc in absurd (omega arith)
 
 -- what touches a cell is a call, accepted and reaching it
 touches_some : (t : List ℕ) (h : Head) (o : Option Call) → touches t h o ≡ true → (c : Call) × (o ≡ some c) × Accepted_on t c × (reaches_head c h ≡ true)
@@ -36,7 +35,7 @@ touches_some t h (some c) e =
     let b = both (takes (verdict t c)) (reaches_head c h) e in
     (c, refl, accepted-number current t c.req c.answer (takes_accepted (verdict t c) b.0), b.1)
 
-module _ (t : List ℕ) (bytes : Bytes t) (legal : table_verdict current t ≡ Accepted) (xs ys : List Call) (p : Permuted xs ys) (kept : KeepsOrder t xs p.place) where
+module _ (t : List ℕ) (bytes : Bytes t) (legal : table_verdict current t ≡ Ok tt) (xs ys : List Call) (p : Permuted xs ys) (kept : KeepsOrder t xs p.place) where
   -- both orders, as one cell of the table sees them
   orders : (n : ℕ) (x : Cell) → get_elem? (cells_of current t) n ≡ some x
       → Orders (steps t xs x.head) (steps t ys x.head) (λ i. touches t x.head (get_elem? xs i)) (length xs) (length ys) p.place p.origin
@@ -75,7 +74,7 @@ module _ (t : List ℕ) (bytes : Bytes t) (legal : table_verdict current t ≡ A
 
   module _ (i : ℕ) (h : i < length xs) (c : Call) (at_i : get_elem? xs i ≡ some c) where
     -- a cell that the call reaches is the same before it in both orders, and no other is reported
-    row_same : verdict t c ≡ Accepted → (n : ℕ) (x : Cell) → get_elem? (cells_of current t) n ≡ some x → rows_in c (cell_before t ys (p.place i) x) ≡ rows_in c (cell_before t xs i x)
+    row_same : verdict t c ≡ Ok tt → (n : ℕ) (x : Cell) → get_elem? (cells_of current t) n ≡ some x → rows_in c (cell_before t ys (p.place i) x) ≡ rows_in c (cell_before t xs i x)
     row_same e n x at =
         by_test (reaches_head c x.head)
         (λ r. ap (rows_in c) (cell_same n x at i (p.place i) (level_at (orders n x at) i h (rw (at_i, e, r)))))
@@ -84,7 +83,7 @@ module _ (t : List ℕ) (bytes : Bytes t) (legal : table_verdict current t ≡ A
         unreached : reaches_head c x.head ≡ false → (zs : List Call) (k : ℕ) → rows_in c (cell_before t zs k x) ≡ []
         unreached r zs k = rows_unreached (request_of c.req) (items_of c.req) (cell_before t zs k x) r
 
-    rows_same : verdict t c ≡ Accepted → rows_of c (run t (take (p.place i) ys)).0 ≡ rows_of c (run t (take i xs)).0
+    rows_same : verdict t c ≡ Ok tt → rows_of c (run t (take (p.place i) ys)).0 ≡ rows_of c (run t (take i xs)).0
     rows_same e =
         ap (flat_map (rows_in c)) (cells-before t legal bytes ys (p.place i) (omega (arith, place_in p i h)))
         ∙ flat_map-map (rows_in c) (cell_before t ys (p.place i)) (cells_of current t)

@@ -1,5 +1,6 @@
 -- Item order and repeats change nothing.
 -- Of the items only their members count for the verdict and for reach (rules, ItemsLaws); rows and cells follow from reach and the request.
+use Rattle.std.specs.Prelude.{Ok, Err}
 use mathlib.Core.Path.{◌≡◌, refl, ap}
 use mathlib.Core.List.{List}
 use Prim.Native.Nat.{ℕ}
@@ -10,12 +11,10 @@ use Rattle.octets.specs.Fields.{numbers, field_of}
 use Rattle.rules.specs.Layout.{current}
 use Rattle.rules.specs.Table.{Cell, cells_of}
 use Rattle.rules.specs.Record.{request_of, items_of, version_in, zero_byte, longest_asked}
-use Rattle.rules.specs.Refusals.{record_verdict, apply_verdict}
+use Rattle.rules.specs.Refusals.{record_verdict, apply_verdict, Verdict}
 use Rattle.rules.specs.Reply.{reply_of}
 use Rattle.rules.specs.Applied.{outcome, applied}
 use Rattle.rules.specs.declared.Request.{Request}
-use Rattle.rules.specs.declared.Verdict.{Verdict}
-use Rattle.rules.specs.declared.Verdict.TheVariants.{Accepted, Refused}
 use Rattle.rules.proofs.VerdictLaws.{apply_chain}
 use Rattle.rules.proofs.ItemsLaws.{SameMembers, judged_alike, reach_alike, steps_alike, rows_alike}
 use Rattle.demands.specs.Demand2.{reached}
@@ -60,8 +59,8 @@ module _ (r s : List ℕ) (e : SameButForItems r s) where
 outcome-same : (v : Verdict) (q : Request) (items others : List ℕ) → SameMembers others items → (t a : List ℕ)
     → SameReply (outcome current v q items t a) (outcome current v q others t a)
 unfolding outcome reply_of
-outcome-same (Refused x) q items others same t a = record { number = refl; length = refl; table = refl; answer = refl }
-outcome-same Accepted q items others same t a =
+outcome-same (Err x) q items others same t a = record { number = refl; length = refl; table = refl; answer = refl }
+outcome-same (Ok tt) q items others same t a =
     let steps = steps_alike others items same q (cells_of current t) in
     let rows = rows_alike others items same q (cells_of current t) in
     record { number = refl; length = rw rows; table = rw steps; answer = rw rows }

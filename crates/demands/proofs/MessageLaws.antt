@@ -1,5 +1,6 @@
 -- What is returned and left of a message, read or written, by its verdict: a chain of stages, a refusal that leaves everything, and the number 0 that means acceptance.
 -- By the cases of the verdict.
+use Rattle.std.specs.Prelude.{Ok, Err}
 use mathlib.Core.Path.{◌≡◌, refl, ◌∙◌}
 use mathlib.Core.List.{List}
 use Prim.Native.Nat.{ℕ, ◌+◌, ◌*◌}
@@ -8,11 +9,9 @@ use Rattle.rules.specs.Lists.{ascending}
 use Rattle.rules.specs.Layout.{current, answer_size, row_size}
 use Rattle.rules.specs.Reply.{identities}
 use Rattle.rules.specs.Answer.{answer_of, answer_bytes}
-use Rattle.rules.specs.Refusals.{verdict_number, refuse_unless, ◌then◌, cancels_some, fits_in}
+use Rattle.rules.specs.Refusals.{verdict_number, refuse_unless, ◌then◌, cancels_some, fits_in, Verdict}
 use Rattle.rules.specs.Applied.{fill}
 use Rattle.rules.specs.declared.Refusal.TheVariants.{CancelsNothing, ShortBuffer, AnswerWrong}
-use Rattle.rules.specs.declared.Verdict.{Verdict}
-use Rattle.rules.specs.declared.Verdict.TheVariants.{Accepted, Refused}
 use Rattle.rules.proofs.VerdictLaws.{then_end, first_append}
 use Rattle.rules.proofs.OutcomeLaws.{fill-accepted, fill-refused}
 use Rattle.answer_judge.specs.Answerable.{answerable}
@@ -54,8 +53,8 @@ response_chain message room =
 -- ---- what is left
 
 transaction-refused : (v : Verdict) (t : ℕ) → (verdict_number v ≡ 0 → ⊥) → transaction_by v t ≡ 0
-transaction-refused Accepted t h = absurd (h refl)
-transaction-refused (Refused x) t h = refl
+transaction-refused (Ok tt) t h = absurd (h refl)
+transaction-refused (Err x) t h = refl
 
 -- a refusal gives transaction identifier 0 and length 0, and leaves the buffer
 left-refused : (v : Verdict) (bs buffer : List ℕ) (t : ℕ) → ((fill v bs buffer).number ≡ 0 → ⊥)
@@ -74,7 +73,7 @@ module _ (message buffer : List ℕ) where
   unfolding cancel_read
   cancel-number = fill-number verdict (record_of (said_in CancelRequest message)) buffer
 
-  pub cancel-accepted : (cancel_read message buffer).number ≡ 0 → verdict ≡ Accepted
+  pub cancel-accepted : (cancel_read message buffer).number ≡ 0 → verdict ≡ Ok tt
   unfolding cancel_read
   cancel-accepted e = fill-accepted verdict (record_of (said_in CancelRequest message)) buffer e
 
@@ -92,7 +91,7 @@ module _ (message buffer : List ℕ) where
   unfolding response_read
   response-number = fill-number judged (answer_bytes current (answer_read message)) buffer
 
-  pub response-accepted : (response_read message buffer).number ≡ 0 → judged ≡ Accepted
+  pub response-accepted : (response_read message buffer).number ≡ 0 → judged ≡ Ok tt
   unfolding response_read
   response-accepted e = fill-accepted judged (answer_bytes current (answer_read message)) buffer e
 
@@ -108,7 +107,7 @@ module _ (answer : List ℕ) (t : ℕ) (message : List ℕ) where
   unfolding response_written
   sent-number = fill-number (response_verdict answer t (length message)) (response_of (answer_of current answer) t) message
 
-  pub sent-accepted : (response_written answer t message).number ≡ 0 → response_verdict answer t (length message) ≡ Accepted
+  pub sent-accepted : (response_written answer t message).number ≡ 0 → response_verdict answer t (length message) ≡ Ok tt
   unfolding response_written
   sent-accepted e = fill-accepted (response_verdict answer t (length message)) (response_of (answer_of current answer) t) message e
 

@@ -1,5 +1,6 @@
 -- What one call does to a table: it leaves a legal one of as many cells; and of a run, which cells it touches, and what it makes of their places.
 -- A call's verdict and a cell's head never change, so which calls touch a cell is known from the first table.
+use Rattle.std.specs.Prelude.{Ok, Err}
 use mathlib.Core.Path.{◌≡◌, refl, sym, ◌∙◌}
 use mathlib.Core.Bool.{Bool, true, false, cond, ◌&&◌}
 use mathlib.Core.Option.{Option, none, some}
@@ -13,11 +14,9 @@ use Rattle.rules.specs.Record.{request_of, items_of}
 use Rattle.rules.specs.Reach.{reaches}
 use Rattle.rules.specs.InCell.{in_cell}
 use Rattle.rules.specs.Reply.{Row, cell_rows}
-use Rattle.rules.specs.Refusals.{table_verdict, apply_verdict}
+use Rattle.rules.specs.Refusals.{table_verdict, apply_verdict, Verdict}
 use Rattle.rules.specs.Applied.{step_cell, outcome, applied}
 use Rattle.rules.specs.declared.Place.{Place}
-use Rattle.rules.specs.declared.Verdict.{Verdict}
-use Rattle.rules.specs.declared.Verdict.TheVariants.{Accepted, Refused}
 use Rattle.rules.proofs.TestLaws.{by_test}
 use Rattle.rules.proofs.AllLaws.{all_of, map_all}
 use Rattle.rules.proofs.AcceptedCallLaws.{acceptance_stays}
@@ -30,10 +29,10 @@ use Rattle.demands.proofs.Zip.{after}
 -- a legal table of so many cells
 pub record LegalWith (v : Version) (n : ℕ) (t : List ℕ) : Type 0 where
   pub bytes : Bytes t
-  pub accepted : table_verdict v t ≡ Accepted
+  pub accepted : table_verdict v t ≡ Ok tt
   pub count : cell_count t ≡ n
 
-pub legal-with : (v : Version) (t : List ℕ) → Bytes t → table_verdict v t ≡ Accepted → LegalWith v (cell_count t) t
+pub legal-with : (v : Version) (t : List ℕ) → Bytes t → table_verdict v t ≡ Ok tt → LegalWith v (cell_count t) t
 legal-with v t bytes accepted = record { bytes = bytes; accepted = accepted; count = refl }
 
 -- a call leaves such a table, accepted or refused
@@ -42,19 +41,19 @@ unfolding applied outcome
 still_legal v n t g c = go (apply_verdict v t c.req (length c.answer)) refl
   where
     go : (w : Verdict) → apply_verdict v t c.req (length c.answer) ≡ w → LegalWith v n (outcome_in v t c).table
-    go Accepted e =
+    go (Ok tt) e =
         record {
           bytes = applied-bytes v t c.req c.answer g.bytes c.are_bytes e;
           accepted = applied-legal v t c.req c.answer g.bytes c.are_bytes e;
           count = applied-count v t c.req c.answer g.bytes c.are_bytes e ∙ g.count;
         }
-    go (Refused x) e = rw e g
+    go (Err x) e = rw e g
 
 -- ---- in a run of today's unit
 
 abbrev pub takes : Verdict → Bool
-takes Accepted = true
-takes (Refused x) = false
+takes (Ok tt) = true
+takes (Err x) = false
 
 abbrev pub reaches_head : Call → Head → Bool
 reaches_head c h = reaches (request_of c.req).area (items_of c.req) h
@@ -101,11 +100,11 @@ module _ (t : List ℕ) where
   abbrev pub after_call : Call → Cell → Cell
   after_call c x = record { head = x.head; places = places_after x.head (some c) x.places }
 
-  after_call_accepted : (c : Call) → verdict c ≡ Accepted → (x : Cell) → step_cell (request_of c.req) (items_of c.req) x ≡ after_call c x
+  after_call_accepted : (c : Call) → verdict c ≡ Ok tt → (x : Cell) → step_cell (request_of c.req) (items_of c.req) x ≡ after_call c x
   unfolding step_cell
   after_call_accepted c e x = by_test (reaches_head c x.head) (λ r. rw (e, r)) (λ r. rw (e, r))
 
-  module _ (legal : table_verdict current t ≡ Accepted) where
+  module _ (legal : table_verdict current t ≡ Ok tt) where
     pub verdict_stays : (u : List ℕ) → OfRun u → (c : Call) → apply_verdict current u c.req (length c.answer) ≡ verdict c
     verdict_stays u g c = acceptance_stays current u t c.req (length c.answer) g.accepted legal g.count
 
@@ -114,7 +113,7 @@ module _ (t : List ℕ) where
     cells_left u g c = go (verdict c) (verdict_stays u g c) refl
       where
         go : (v : Verdict) → apply_verdict current u c.req (length c.answer) ≡ verdict c → verdict c ≡ v → cells_of current (outcome_on u c).table ≡ map (after_call c) (cells_of current u)
-        go Accepted s e =
+        go (Ok tt) s e =
             applied-cells current u c.req c.answer g.bytes c.are_bytes (s ∙ e)
             ∙ map_all (step_cell (request_of c.req) (items_of c.req)) (after_call c) (all_of (after_call_accepted c e) (cells_of current u))
-        go (Refused x) s e = rw (s ∙ e) (sym (map_all (after_call c) (λ y. y) (all_of (λ y. rw e) (cells_of current u)) ∙ map-id (cells_of current u)))
+        go (Err x) s e = rw (s ∙ e) (sym (map_all (after_call c) (λ y. y) (all_of (λ y. rw e) (cells_of current u)) ∙ map-id (cells_of current u)))

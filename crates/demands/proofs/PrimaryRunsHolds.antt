@@ -1,5 +1,6 @@
 -- An earthquake primary goes out in every second of any run that does not stop it.
 -- Call by call: by demand 2 a cell that is reached becomes what its rule gives, and any other stays (PrimaryCells has the rule's half).
+use Rattle.std.specs.Prelude.{Ok}
 use mathlib.Core.Path.{◌≡◌, refl, ap, ◌∙◌}
 use mathlib.Core.Bool.{Bool, true, false, ◌&&◌}
 use mathlib.Core.Option.{some}
@@ -17,7 +18,6 @@ use Rattle.rules.specs.Record.{write_replace, is_primary, concurrent, one_second
 use Rattle.rules.specs.Reply.{Row, reply_of}
 use Rattle.rules.specs.Refusals.{table_verdict}
 use Rattle.rules.specs.declared.Place.{Place}
-use Rattle.rules.specs.declared.Verdict.TheVariants.{Accepted}
 use Rattle.rules.proofs.ListsLaws.{some_at, some-flat_map}
 use Rattle.rules.proofs.TestLaws.{by_test}
 use Rattle.rules.proofs.OutcomeLaws.{applied-accepted, applied-refused}
@@ -41,7 +41,7 @@ module _ (k identifier serial content : ℕ) where
   -- the table after it is legal and of the same size, the cell keeps its head, and the text goes out in it still
   record Goes (t u : List ℕ) : Type 0 where
     bytes : Bytes u
-    legal : table_verdict current u ≡ Accepted
+    legal : table_verdict current u ≡ Ok tt
     there : k < cell_count u
     head : (cell_in u k).head ≡ (cell_in t k).head
     live : GoesOutIn u k identifier serial content
@@ -57,7 +57,7 @@ module _ (k identifier serial content : ℕ) where
         (λ r. make (ruled c.req (cell_in t k)) (after.reached-reads k there r) refl (spared_keeps identifier serial content (request_of c.req) (cell_in t k).places here (spared r)))
         (λ n. make (cell_in t k) (ap (cell_of current) (after.unreached_stays k there n)) refl here)
 
-    refused-goes : table_verdict current t ≡ Accepted → (Accepted_on t c → ⊥) → Goes t (outcome_on t c).table
+    refused-goes : table_verdict current t ≡ Ok tt → (Accepted_on t c → ⊥) → Goes t (outcome_on t c).table
     refused-goes legal n = rw (applied-refused current t c.req c.answer n).1 (record { bytes = bytes; legal = legal; there = there; head = refl; live = here })
 
     -- its row, if it is a second
@@ -78,7 +78,7 @@ module _ (k identifier serial content : ℕ) where
           among = some-flat_map (rows_in c.req) rows has (cells_of current t) (λ x e. e) in_table;
         }
 
-    goes_on : table_verdict current t ≡ Accepted
+    goes_on : table_verdict current t ≡ Ok tt
         → (Accepted_on t c → Reaches c (cell_in t k) → stops_text identifier serial (request_of c.req) (cell_in t k).places ≡ false)
         → Goes t (outcome_on t c).table
     goes_on legal spared =
@@ -88,7 +88,7 @@ module _ (k identifier serial content : ℕ) where
 
   -- ---- call by call
 
-  goes-out : (t : List ℕ) → Bytes t → table_verdict current t ≡ Accepted → k < cell_count t → GoesOutIn t k identifier serial content
+  goes-out : (t : List ℕ) → Bytes t → table_verdict current t ≡ Ok tt → k < cell_count t → GoesOutIn t k identifier serial content
       → (cs : List Call) → Spared identifier serial k t cs → InEachSecond t cs (cell_in t k).head.identity content (run t cs).1
   unfolding run_in
   goes-out t bytes legal there here [] spared i d e z s = absurd (omega (arith, position_in {A = Call} [] i e))

@@ -1,5 +1,6 @@
 -- An answer that can be given is sent where there is room, and what was sent reads back as the same kind, cells, counts and transaction identifier.
 -- Both verdicts are computed from that the answer can be given; what is left then stands at the front of its buffer.
+use Rattle.std.specs.Prelude.{Ok, Err}
 use mathlib.Core.Path.{◌≡◌, ap, subst, ◌∙◌}
 use mathlib.Core.Bool.{true}
 use mathlib.Core.List.{List}
@@ -13,11 +14,9 @@ use Rattle.rules.specs.Layout.{current}
 use Rattle.rules.specs.Record.{kind_of}
 use Rattle.rules.specs.Reply.{identities}
 use Rattle.rules.specs.Answer.{Answer, answer_of, answer_bytes}
-use Rattle.rules.specs.Refusals.{first_of}
+use Rattle.rules.specs.Refusals.{first_of, Verdict}
 use Rattle.rules.specs.Applied.{fill}
 use Rattle.rules.specs.declared.Refusal.TheVariants.{ShortBuffer}
-use Rattle.rules.specs.declared.Verdict.{Verdict}
-use Rattle.rules.specs.declared.Verdict.TheVariants.{Accepted, Refused}
 use Rattle.rules.proofs.VerdictLaws.{all_held}
 use Rattle.rules.proofs.AnswerCodec.{length-answer_bytes}
 use Rattle.answer_judge.specs.Answerable.{answerable}
@@ -51,25 +50,25 @@ module _ (answer : List ℕ) (t : ℕ) where
   pub sent-size : length response ≡ sent_size answer
   sent-size = response-size (sent_as answer) t (rows_told answer)
 
-  pub sent-fits : answerable answer ≡ true → (room : ℕ) → sent_size answer ≤ room → response_verdict answer t room ≡ Accepted
+  pub sent-fits : answerable answer ≡ true → (room : ℕ) → sent_size answer ≤ room → response_verdict answer t room ≡ Ok tt
   unfolding response_verdict
   sent-fits given room h = rw (given, le-leb (length response) room (omega (arith, sent-size, h)))
 
-  pub sent-short : answerable answer ≡ true → (room : ℕ) → room < sent_size answer → response_verdict answer t room ≡ Refused ShortBuffer
+  pub sent-short : answerable answer ≡ true → (room : ℕ) → room < sent_size answer → response_verdict answer t room ≡ Err ShortBuffer
   unfolding response_verdict
   sent-short given room h = rw (given, lt-leb (length response) room (omega (arith, sent-size, h)))
 
   -- what a call that was accepted was given
-  pub sent-held : (room : ℕ) → response_verdict answer t room ≡ Accepted → (answerable answer ≡ true) × (length response ≤ room)
+  pub sent-held : (room : ℕ) → response_verdict answer t room ≡ Ok tt → (answerable answer ≡ true) × (length response ≤ room)
   unfolding response_verdict
   sent-held room e = let held = all_held (response_tests answer t room) e in (held.0, leb-true (length response) room held.1.0)
 
   -- and what it left
-  pub sent_front : (buffer : List ℕ) → response_verdict answer t (length buffer) ≡ Accepted → (d : PwsDone) (buffer' : List ℕ) → WriteResponsePromise answer t buffer d buffer'
+  pub sent_front : (buffer : List ℕ) → response_verdict answer t (length buffer) ≡ Ok tt → (d : PwsDone) (buffer' : List ℕ) → WriteResponsePromise answer t buffer d buffer'
       → (d.length ≡ length response) × Front response buffer d.length buffer'
   unfolding response_written fill
   sent_front buffer e d buffer' p =
-      let w : filled d buffer' ≡ fill Accepted response buffer = p ∙ ap (λ (v : Verdict). fill v response buffer) e in
+      let w : filled d buffer' ≡ fill (Ok tt) response buffer = p ∙ ap (λ (v : Verdict). fill v response buffer) e in
       (length-filled w, front response buffer (sent-held (length buffer) e).1 d.length buffer' (length-filled w) (buffer-filled w))
 
   -- ---- and read back
@@ -84,9 +83,9 @@ module _ (answer : List ℕ) (t : ℕ) where
         (nameless_again (response-answers (kind_of (answer_of current answer).kind)) (answer_writable answer bytes given t small) order)
 
     pub back-left : (buffer : List ℕ) → answer_room (length (rows_told answer)) ≤ length buffer
-        → response_read response buffer ≡ with_transaction (fill Accepted (answer_bytes current back) buffer) t
+        → response_read response buffer ≡ with_transaction (fill (Ok tt) (answer_bytes current back) buffer) t
     back-left buffer room =
-        let v : first_of (row_tests (rows_told answer) (length buffer)) ≡ Accepted = rw (order, le-leb (answer_room (length (rows_told answer))) (length buffer) room) in
+        let v : first_of (row_tests (rows_told answer) (length buffer)) ≡ Ok tt = rw (order, le-leb (answer_room (length (rows_told answer))) (length buffer) room) in
         well_written.read_back answer t buffer bytes given small
         ∙ ap (λ (x : Verdict). with_transaction (fill x (answer_bytes current back) buffer) (transaction_by x t)) v
 
@@ -95,7 +94,7 @@ module _ (answer : List ℕ) (t : ℕ) where
         → ReadBack answer t m buffer'
     unfolding fill
     back_read buffer room b same m buffer' p =
-        let w : taken m buffer' ≡ with_transaction (fill Accepted (answer_bytes current back) buffer) t = p ∙ ap (λ (x : List ℕ). response_read x buffer) same ∙ back-left buffer room in
+        let w : taken m buffer' ≡ with_transaction (fill (Ok tt) (answer_bytes current back) buffer) t = p ∙ ap (λ (x : List ℕ). response_read x buffer) same ∙ back-left buffer room in
         let long = length-answer_bytes current back in
         let f = front (answer_bytes current back) buffer (omega (arith, long, room)) m.length buffer' (length_taken w) (buffer-taken w) in
         record {

@@ -1,5 +1,6 @@
 -- A run of calls, cell by cell: each table of it is legal and has as many cells as the first, and a cell holds what the calls that touch it made of its places.
 -- Call after call, by what one call does (OneCall).
+use Rattle.std.specs.Prelude.{Ok, Err}
 use mathlib.Core.Path.{◌≡◌, refl, sym, ap, ◌∙◌}
 use mathlib.Core.Option
 use mathlib.Core.List.{List, [], ◌∷◌, map, map-map, map-id}
@@ -12,17 +13,15 @@ use Rattle.rules.specs.Layout.{current}
 use Rattle.rules.specs.Table.{Cell, cell_count, cells_of, table_bytes}
 use Rattle.rules.specs.Record.{request_of, items_of}
 use Rattle.rules.specs.Reply.{reply_of}
-use Rattle.rules.specs.Refusals.{table_verdict}
+use Rattle.rules.specs.Refusals.{table_verdict, Verdict}
 use Rattle.rules.specs.Applied.{outcome, applied}
-use Rattle.rules.specs.declared.Verdict.{Verdict}
-use Rattle.rules.specs.declared.Verdict.TheVariants.{Accepted, Refused}
 use Rattle.rules.proofs.AllLaws.{all_of, map_all}
 use Rattle.rules.proofs.TableCodec.{table-back}
 use Rattle.demands.specs.Demand3.{Call, outcome_on, result_of, run, run_in}
 use Rattle.demands.proofs.Zip.{after, after_shift}
 use Rattle.demands.proofs.OneCall.{legal-with, still_legal, rows_of, verdict, steps, cell_before, OfRun, after_call, verdict_stays, cells_left}
 
-module _ (t : List ℕ) (legal : table_verdict current t ≡ Accepted) where
+module _ (t : List ℕ) (legal : table_verdict current t ≡ Ok tt) where
   -- ---- call after call
 
   goes_on : (xs : List Call) (u : List ℕ) → OfRun t u → OfRun t (run u xs).0
@@ -44,14 +43,14 @@ module _ (t : List ℕ) (legal : table_verdict current t ≡ Accepted) where
   -- ---- results
 
   -- a result depends on the verdict and, if the call is accepted, on its rows
-  pub result_same : (u v : List ℕ) → OfRun t u → OfRun t v → (c : Call) → (verdict t c ≡ Accepted → rows_of c u ≡ rows_of c v) → result_of (outcome_on u c) ≡ result_of (outcome_on v c)
+  pub result_same : (u v : List ℕ) → OfRun t u → OfRun t v → (c : Call) → (verdict t c ≡ Ok tt → rows_of c u ≡ rows_of c v) → result_of (outcome_on u c) ≡ result_of (outcome_on v c)
   unfolding applied outcome reply_of
   result_same u v g k c h = rw (verdict_stays t legal u g c, verdict_stays t legal v k c) (go (verdict t c) h)
     where
-      go : (w : Verdict) → (w ≡ Accepted → rows_of c u ≡ rows_of c v)
+      go : (w : Verdict) → (w ≡ Ok tt → rows_of c u ≡ rows_of c v)
           → result_of (outcome current w (request_of c.req) (items_of c.req) u c.answer) ≡ result_of (outcome current w (request_of c.req) (items_of c.req) v c.answer)
-      go Accepted h = rw (h refl)
-      go (Refused x) h = refl
+      go (Ok tt) h = rw (h refl)
+      go (Err x) h = refl
 
   -- ---- a run that begins with t
 

@@ -1,5 +1,6 @@
 -- Seconds are calls that may be sent today, and each of them is accepted.
 -- The record of a second is judged by computing, in every unit that takes its version; the rest is room, which the calls have.
+use Rattle.std.specs.Prelude.{Ok}
 use mathlib.Core.Path.{◌≡◌, refl, sym, ap, ◌∙◌}
 use mathlib.Core.Bool.{true}
 use mathlib.Core.Logic.{◌⊎◌, inl, inr}
@@ -17,7 +18,6 @@ use Rattle.rules.specs.Layout.{Version, version1, version2, version_number, curr
 use Rattle.rules.specs.Record.{one_second, request_of, items_of, version_in, renewed, record_marked, allowed, kind_allows, area_fits, within_limits, cancels_nothing}
 use Rattle.rules.specs.Answer.{room_for}
 use Rattle.rules.specs.Refusals.{request_verdict, record_verdict}
-use Rattle.rules.specs.declared.Verdict.TheVariants.{Accepted}
 use Rattle.rules.proofs.VerdictLaws.{apply_chain}
 use Rattle.rules.proofs.TestLaws.{and-true}
 use Rattle.rules.proofs.VersionsLaws.{taken-version, asked-period, still_taken}
@@ -28,7 +28,7 @@ use Rattle.demands.proofs.OneCall.{LegalWith, still_legal}
 
 -- ---- its record, computed
 
-second-judged : (v w : Version) → version_number w ≤ version_number v → record_verdict v (second_record w) ≡ Accepted
+second-judged : (v w : Version) → version_number w ≤ version_number v → record_verdict v (second_record w) ≡ Ok tt
 unfolding record_verdict request_verdict record_marked request_of items_of kind_allows area_fits within_limits cancels_nothing allowed zeros one_of any every field_of numbers be pieces
 second-judged version1 version1 h = refl
 second-judged version2 version1 h = refl

@@ -1,5 +1,6 @@
 -- The first stage that refuses decides a call's number, and gives no other numbers than its own.
 -- A verdict is a chain of stages; each is taken off its front, by its two cases.
+use Rattle.std.specs.Prelude.{Ok, Err}
 use mathlib.Core.Path.{◌≡◌, refl, sym, ap, ◌∙◌, subst}
 use mathlib.Core.Bool.{Bool, true, false, ◌&&◌}
 use mathlib.Core.List.{List, [], ◌∷◌}
@@ -11,12 +12,10 @@ use borrow.Author.Tests.{leb-true}
 use Rattle.rules.specs.Lists.{every, ascending}
 use Rattle.rules.specs.Layout.{current, longest_period}
 use Rattle.rules.specs.Reply.{Row, identities}
-use Rattle.rules.specs.Refusals.{number_of, verdict_number, refuse_unless, ◌then◌, Test, first_of, few_items, cancels_some, fits_in, legal_heads, table_tests, older_tests, request_tests, record_tests, table_verdict, older_verdict, request_verdict, record_verdict}
+use Rattle.rules.specs.Refusals.{number_of, verdict_number, refuse_unless, ◌then◌, Test, first_of, few_items, cancels_some, fits_in, legal_heads, table_tests, older_tests, request_tests, record_tests, table_verdict, older_verdict, request_verdict, record_verdict, Verdict}
 use Rattle.rules.specs.declared.Request.{Request}
 use Rattle.rules.specs.declared.Refusal.{Refusal}
 use Rattle.rules.specs.declared.Refusal.TheVariants.{RecordLength, CancelsNothing, ShortBuffer, BadHeads, ListDamaged, TooManySegments, NoSuchSegment, AnswerWrong}
-use Rattle.rules.specs.declared.Verdict.{Verdict}
-use Rattle.rules.specs.declared.Verdict.TheVariants.{Accepted, Refused}
 use Rattle.rules.proofs.TestLaws.{both}
 use Rattle.rules.proofs.OutcomeLaws.{number_positive}
 use Rattle.answer_judge.specs.Answerable.{answerable}
@@ -28,8 +27,8 @@ use Rattle.demands.specs.Demand1.{Stage, Given, Numbered}
 -- ---- the numbers of a verdict
 
 abbrev pub Within : (lowest highest : ℕ) → Verdict → Type 0
-Within lowest highest Accepted = Unit
-Within lowest highest (Refused x) = (lowest ≤ number_of x) × (number_of x ≤ highest)
+Within lowest highest (Ok tt) = Unit
+Within lowest highest (Err x) = (lowest ≤ number_of x) × (number_of x ≤ highest)
 
 -- one test more in front
 within-next : {lowest highest : ℕ} (b : Bool) (x : Refusal) (w : Verdict) → (lowest ≤ number_of x) × (number_of x ≤ highest) → Within lowest highest w → Within lowest highest (refuse_unless b x then w)
@@ -107,7 +106,7 @@ within-cancels request = within-last (cancels_some request) CancelsNothing (omeg
 -- ---- stages, one behind the other
 
 abbrev pub chain : List Stage → Verdict
-chain [] = Accepted
+chain [] = Ok tt
 chain (s ∷ []) = s.verdict
 chain (s ∷ next ∷ later) = s.verdict then chain (next ∷ later)
 
@@ -116,18 +115,18 @@ EachWithin [] = Unit
 EachWithin (s ∷ later) = Within s.lowest s.highest s.verdict × EachWithin later
 
 -- no refusal is acceptance
-apart : (x : Refusal) → Accepted ≡ Refused x → ⊥
+apart : (x : Refusal) → (Ok tt) ≡ Err x → ⊥
 apart x e = let z : 0 ≡ number_of x = ap verdict_number e in omega (arith, number_positive x)
 
 module _ (lowest highest : ℕ) where
   stage_last : (v : Verdict) → Within lowest highest v → Given (verdict_number v) (record { lowest = lowest; highest = highest; verdict = v } ∷ [])
-  stage_last Accepted p = (λ x e. absurd (apart x e), λ e. refl)
-  stage_last (Refused y) p = (λ x e. (ap verdict_number e, p.0, p.1), ap verdict_number)
+  stage_last (Ok tt) p = (λ x e. absurd (apart x e), λ e. refl)
+  stage_last (Err y) p = (λ x e. (ap verdict_number e, p.0, p.1), ap verdict_number)
 
   stage_next : (v w : Verdict) → Within lowest highest v → (later : List Stage) → Given (verdict_number w) later
       → Given (verdict_number (v then w)) (record { lowest = lowest; highest = highest; verdict = v } ∷ later)
-  stage_next Accepted w p later g = (λ x e. absurd (apart x e), λ e. g)
-  stage_next (Refused y) w p later g = (λ x e. (ap verdict_number e, p.0, p.1), λ e. absurd (apart y (sym e)))
+  stage_next (Ok tt) w p later g = (λ x e. absurd (apart x e), λ e. g)
+  stage_next (Err y) w p later g = (λ x e. (ap verdict_number e, p.0, p.1), λ e. absurd (apart y (sym e)))
 
 by_stages : (stages : List Stage) → EachWithin stages → Given (verdict_number (chain stages)) stages
 by_stages [] w = refl

@@ -1,5 +1,6 @@
 -- A call on the converted table tells what the same call tells in the older unit, and leaves what that one leaves, converted.
 -- What is told is decoded, and does not depend on the version (rules, VersionsLaws); each unit writes it in its own layout.
+use Rattle.std.specs.Prelude.{Ok}
 use mathlib.Core.Path.{◌≡◌, sym, ◌∙◌}
 use mathlib.Core.List.{List}
 use Prim.Native.Nat.{ℕ}
@@ -11,7 +12,6 @@ use Rattle.rules.specs.Record.{request_of, version_in, takes_version}
 use Rattle.rules.specs.Answer.{Answer, room_for}
 use Rattle.rules.specs.Refusals.{fits_in, apply_verdict}
 use Rattle.rules.specs.Applied.{converted, answered, applied}
-use Rattle.rules.specs.declared.Verdict.TheVariants.{Accepted}
 use Rattle.rules.proofs.OutcomeLaws.{applied-accepted, applied-refused}
 use Rattle.rules.proofs.AppliedLaws.{applied-written}
 use Rattle.rules.proofs.AnsweredLaws.{applied-whole, applied-reads}
@@ -24,7 +24,7 @@ use Rattle.demands.proofs.OneCall.{LegalWith}
 
 -- ---- in one unit
 
-tells : (v : Version) (t r a : List ℕ) → Bytes t → Bytes r → apply_verdict v t r (length a) ≡ Accepted → Tells v (answered v t r) a (result_of (applied v t r a))
+tells : (v : Version) (t r a : List ℕ) → Bytes t → Bytes r → apply_verdict v t r (length a) ≡ Ok tt → Tells v (answered v t r) a (result_of (applied v t r a))
 tells v t r a bt br e =
     record { size = applied-written v t r a bt br e; whole = applied-whole v t r a bt br e; reads = applied-reads v t r a bt br e }
 

@@ -1,5 +1,6 @@
 -- What 5/13 claims of messages holds of every call under the promise.
 -- A call that returned 0 was accepted, so that it left what a filled buffer is left with; the rest is that of the definitions (wire, MessagePromisesHold and CancelPromisesHold).
+use Rattle.std.specs.Prelude.{Ok}
 use mathlib.Core.Path.{◌≡◌, refl, sym, ap, ◌∙◌}
 use mathlib.Core.Bool.{true, false, false≢true}
 use mathlib.Core.List.{List, [], ◌∷◌, ◌++◌, map, flat_map}
@@ -13,7 +14,6 @@ use Rattle.rules.specs.Lists.{those}
 use Rattle.rules.specs.Record.{items_of}
 use Rattle.rules.specs.Refusals.{verdict_number}
 use Rattle.rules.specs.Applied.{fill, read_of}
-use Rattle.rules.specs.declared.Verdict.TheVariants.{Accepted}
 use Rattle.rules.proofs.TestLaws.{by_test}
 use Rattle.rules.proofs.RecordTrips.{length-record_bytes}
 use Rattle.aper.specs.Elements.{Element}
@@ -62,7 +62,7 @@ module _ (message buffer : List ℕ) where
       }
 
 -- the tests that a call passed which returned 0
-passed : (message buffer : List ℕ) (m : PwsMessage) (buffer' : List ℕ) → ReadCancelPromise message buffer m buffer' → m.number ≡ 0 → cancel_verdict message (length buffer) ≡ Accepted
+passed : (message buffer : List ℕ) (m : PwsMessage) (buffer' : List ℕ) → ReadCancelPromise message buffer m buffer' → m.number ≡ 0 → cancel_verdict message (length buffer) ≡ Ok tt
 passed message buffer m buffer' p z = cancel-accepted message buffer (sym (number-taken p) ∙ z)
 
 taken-whole : (message buffer : List ℕ) → Bytes message → (m : PwsMessage) (buffer' : List ℕ) → ReadCancelPromise message buffer m buffer' → m.number ≡ 0 → CancelTaken message buffer m buffer'
@@ -71,7 +71,7 @@ taken-whole message buffer bytes m buffer' p z =
     let c = said_in CancelRequest message in
     let v = passed message buffer m buffer' p z in
     let held = (refusing.exact message (length buffer)).accepted v in
-    let w : taken m buffer' ≡ with_transaction (fill Accepted (record_of c) buffer) c.transaction =
+    let w : taken m buffer' ≡ with_transaction (fill (Ok tt) (record_of c) buffer) c.transaction =
     p ∙ ap (λ x. with_transaction (fill x (record_of c) buffer) (transaction_by x c.transaction)) v in
     of_record message buffer bytes (leb-true (record_room c) (length buffer) held.1.1.1.1.1.0) (legal-record.reads message buffer bytes v) m buffer'
     (transaction-taken w) (length_taken w) (buffer-taken w)

@@ -1,6 +1,7 @@
 -- What 6/13 claims of responses holds of every call under the two promises.
 -- What was sent and read back is ResponseLaws'; a call that read and returned 0 was accepted, so that it left what a filled buffer is left with; the rest is that of
 -- the definitions (responses, ResponsePromisesHold).
+use Rattle.std.specs.Prelude.{Ok}
 use mathlib.Core.Path.{◌≡◌, refl, sym, ap, ◌∙◌}
 use mathlib.Core.Bool.{true, false}
 use mathlib.Core.List.{List}
@@ -15,10 +16,8 @@ use Rattle.rules.specs.Layout.{current}
 use Rattle.rules.specs.Record.{kind_of}
 use Rattle.rules.specs.Reply.{identities}
 use Rattle.rules.specs.Answer.{Answer, answer_of, answer_bytes}
-use Rattle.rules.specs.Refusals.{verdict_number, first_of}
+use Rattle.rules.specs.Refusals.{verdict_number, first_of, Verdict}
 use Rattle.rules.specs.Applied.{fill}
-use Rattle.rules.specs.declared.Verdict.{Verdict}
-use Rattle.rules.specs.declared.Verdict.TheVariants.{Accepted}
 use Rattle.rules.proofs.TestLaws.{by_test}
 use Rattle.rules.proofs.VerdictLaws.{then_accepted}
 use Rattle.rules.proofs.AnswerCodec.{length-answer_bytes}
@@ -49,7 +48,7 @@ use Rattle.demands.proofs.ResponseLaws.{response, sent-size, sent-fits, sent-sho
 -- ---- written
 
 -- 13 to 16 are passed: it is read where there is room
-response-passes : (answer : List ℕ) (t : ℕ) → Bytes answer → t < 256 → answerable answer ≡ true → message_verdict (answering (response answer t)) (response answer t) ≡ Accepted
+response-passes : (answer : List ℕ) (t : ℕ) → Bytes answer → t < 256 → answerable answer ≡ true → message_verdict (answering (response answer t)) (response answer t) ≡ Ok tt
 unfolding fill
 response-passes answer t bytes small given =
     let n = answer_room (length (rows_told answer)) in
@@ -63,7 +62,7 @@ module _ (answer : List ℕ) (t : ℕ) (buffer : List ℕ) (d : PwsDone) (buffer
   number_is : d.number ≡ verdict_number (response_verdict answer t (length buffer))
   number_is = number-filled p ∙ sent-number answer t buffer
 
-  passed : d.number ≡ 0 → response_verdict answer t (length buffer) ≡ Accepted
+  passed : d.number ≡ 0 → response_verdict answer t (length buffer) ≡ Ok tt
   passed z = sent-accepted answer t buffer (sym (number-filled p) ∙ z)
 
   whole_sent : Bytes answer → t < 256 → d.number ≡ 0 → Sent answer t buffer d buffer'
@@ -102,7 +101,7 @@ module _ (answer : List ℕ) (t : ℕ) (buffer : List ℕ) (d : PwsDone) (buffer
 -- ---- read
 
 module _ (message buffer : List ℕ) (m : PwsMessage) (buffer' : List ℕ) (p : ReadResponsePromise message buffer m buffer') where
-  judged : m.number ≡ 0 → read_verdict message (length buffer) ≡ Accepted
+  judged : m.number ≡ 0 → read_verdict message (length buffer) ≡ Ok tt
   judged z = response-accepted message buffer (sym (number-taken p) ∙ z)
 
   answer-given : Bytes message → m.number ≡ 0 → Given message buffer m buffer'
@@ -111,7 +110,7 @@ module _ (message buffer : List ℕ) (m : PwsMessage) (buffer' : List ℕ) (p : 
       let e = judged z in
       let bs = answer_bytes current (answer_read message) in
       let t = (said_in (answering message) message).transaction in
-      let w : taken m buffer' ≡ with_transaction (fill Accepted bs buffer) t = p ∙ ap (λ (v : Verdict). with_transaction (fill v bs buffer) (transaction_by v t)) e in
+      let w : taken m buffer' ≡ with_transaction (fill (Ok tt) bs buffer) t = p ∙ ap (λ (v : Verdict). with_transaction (fill v bs buffer) (transaction_by v t)) e in
       let held = (refusing.read-exact message (length buffer)).accepted e in
       let room = leb-true (answer_room (length (rows_read message))) (length buffer) held.1.1.1.1.1.0 in
       let long : length bs ≡ answer_room (length (rows_read message)) = length-answer_bytes current (answer_read message) in
@@ -157,9 +156,9 @@ module _ (message buffer response again : List ℕ) (t : ℕ) (bytes : Bytes mes
       let f = sent_front answer t response v d response' q in
       let same : take d.length response' ≡ response_of (answer_of current w.given) t = f.1.whole ∙ ap (λ (b : List ℕ). response_of (answer_of current b) t) is in
       let order : ascending (identities (rows_read message)) ≡ true = ((refusing.read-exact message (length buffer)).accepted e).1.1.1.1.0 in
-      let fits : first_of (row_tests (rows_read message) (length again)) ≡ Accepted =
+      let fits : first_of (row_tests (rows_read message) (length again)) ≡ Ok tt =
       rw (order, le-leb (answer_room (length (rows_read message))) (length again) (omega (arith, given.size, space))) in
-      let back : taken n again' ≡ with_transaction (fill Accepted w.given again) t =
+      let back : taken n again' ≡ with_transaction (fill (Ok tt) w.given again) t =
       r ∙ ap (λ (b : List ℕ). response_read b again) same ∙ w.back again ∙ ap (λ (x : Verdict). with_transaction (fill x w.given again) (transaction_by x t)) fits in
       let long : length w.given ≡ m.length = ap length w.is ∙ length-answer_bytes current (answer_read message) ∙ sym given.size in
       let g = front w.given again (omega (arith, long, space)) n.length again' (length_taken back) (buffer-taken back) in

@@ -1,7 +1,7 @@
 -- Document 02, 3/13: a converted table broadcasts what it would have under its own version, over any number of seconds.
 -- A unit of that version and one of today take the same calls, the first on the old table, the second on the converted one, each in buffers of its own: both tell the same.
 -- Left out is what the older version had no word for and refuses: a record of a later version, and a start that is written anew with a period above its own version's longest.
-use Rattle.std.specs.Prelude.{◌≡◌, true, ◌⊎◌, List, [], ◌∷◌, ◌++◌, ℕ, ◌+◌, ◌*◌, ◌≤◌, ◌<◌, eqb, length, take, drop, replicate}
+use Rattle.std.specs.Prelude.{◌≡◌, true, ◌⊎◌, List, [], ◌∷◌, ◌++◌, ℕ, ◌+◌, ◌*◌, ◌≤◌, ◌<◌, eqb, length, take, drop, replicate, Ok}
 use Rattle.octets.specs.Runs.{Bytes}
 use Rattle.rules.specs.Lists.{every}
 use Rattle.rules.specs.Layout.{Version, version_number, current, header_size, cell_size}
@@ -10,7 +10,6 @@ use Rattle.rules.specs.Record.{one_second, request_of, version_in, takes_version
 use Rattle.rules.specs.Answer.{Answer, answer_of, answer_bytes, room_for}
 use Rattle.rules.specs.Refusals.{fits_in, table_verdict}
 use Rattle.rules.specs.Applied.{converted, read_of, answered, applied}
-use Rattle.rules.specs.declared.Verdict.TheVariants.{Accepted}
 use Rattle.pws.specs.declared.PwsDone.{PwsDone}
 use Rattle.pws.specs.Promises.{ConvertPromise}
 use Rattle.demands.specs.Demand3.{Call, Result, outcome_in, run_in, Chain}
@@ -24,13 +23,13 @@ Older v = version_number v < version_number current
 pub record Carried (old table : List ℕ) (d : PwsDone) (table' : List ℕ) : Type 0 where
   -- the old table is a legal one of the version that it says, an older one
   pub older : Older (own_version old)
-  pub was_legal : table_verdict (own_version old) old ≡ Accepted
+  pub was_legal : table_verdict (own_version old) old ≡ Ok tt
   pub size : d.length ≡ header_size + cell_size current * cell_count old
   pub whole : take d.length table' ≡ converted old
   -- the bytes behind it stay
   pub behind : drop d.length table' ≡ drop d.length table
   -- requests can be applied to it ..
-  pub legal : table_verdict current (take d.length table') ≡ Accepted
+  pub legal : table_verdict current (take d.length table') ≡ Ok tt
   -- .. and it says the same cells: every head, every text with what was sent and how long it waits
   pub same-cells : cells_of current (take d.length table') ≡ cells_of (own_version old) old
 
@@ -105,14 +104,14 @@ pub record Conversion : Type 0 where
   pub carried : (old table : List ℕ) → Bytes old → (d : PwsDone) (table' : List ℕ) → ConvertPromise old table d table' → d.number ≡ 0
       → Carried old table d table'
   -- of every legal table of any version and any calls, accepted or refused: what one unit refuses the other refuses, with the same number
-  pub broadcasts : (v : Version) (t : List ℕ) → Bytes t → table_verdict v t ≡ Accepted → (cs ds : List Call) → Each (SameCall v (cell_count t)) cs ds
+  pub broadcasts : (v : Version) (t : List ℕ) → Bytes t → table_verdict v t ≡ Ok tt → (cs ds : List Call) → Each (SameCall v (cell_count t)) cs ds
       → SameBroadcasts v t cs ds (run_in current (converted t) ds)
   -- of code: `pws_convert`, then `pws_apply` after `pws_apply`, whatever is returned and left under their promises
   pub promised : (old table : List ℕ) → Bytes old → (d : PwsDone) (table' : List ℕ) → ConvertPromise old table d table' → d.number ≡ 0
       → (cs ds : List Call) → Each (SameCall (own_version old) (cell_count old)) cs ds → (u : List ℕ) (rs : List Result) → Chain (take d.length table') ds u rs
       → SameBroadcasts (own_version old) old cs ds (u, rs)
   -- seconds are such calls, and each of them is accepted
-  pub seconds : (v : Version) (t : List ℕ) → Bytes t → table_verdict v t ≡ Accepted → (cs ds : List Call) → Each (SameSecond v (cell_count t)) cs ds
+  pub seconds : (v : Version) (t : List ℕ) → Bytes t → table_verdict v t ≡ Ok tt → (cs ds : List Call) → Each (SameSecond v (cell_count t)) cs ds
       → Each (SameCall v (cell_count t)) cs ds × (every (λ x. eqb x.number 0) (run_in v t cs).1 ≡ true)
 
 -- ---- as long as the answer has one layout in every version, as it has today

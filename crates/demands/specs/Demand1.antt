@@ -1,19 +1,17 @@
 -- Demand 1: every entry point takes every input and comes back; a damaged table, a bad request or a short buffer gets its refusal number, length 0 and every buffer as it was.
 -- Said of all that meets the promises of the C surface (crate pws, specs/Promises), which are what a caller learns of each function (Contracts).
-use Rattle.std.specs.Prelude.{◌≡◌, List, [], ◌∷◌, ℕ, ◌+◌, ◌*◌, ◌≤◌, leb, length}
+use Rattle.std.specs.Prelude.{◌≡◌, List, [], ◌∷◌, ℕ, ◌+◌, ◌*◌, ◌≤◌, leb, length, Ok, Err}
 use Rattle.rules.specs.Lists.{ascending}
 use Rattle.rules.specs.Layout.{current, longest_period, header_size, cell_size, record_size, item_size, answer_size, row_size}
 use Rattle.rules.specs.Table.{cell_count}
 use Rattle.rules.specs.Record.{request_of}
 use Rattle.rules.specs.Reply.{Row, identities}
 use Rattle.rules.specs.Answer.{answer_of, room_for}
-use Rattle.rules.specs.Refusals.{number_of, verdict_number, refuse_unless, few_items, cancels_some, fits_in, head_count, legal_heads, table_verdict, older_verdict, record_verdict, request_verdict, build_verdict, convert_verdict, apply_verdict, write_verdict}
+use Rattle.rules.specs.Refusals.{number_of, verdict_number, refuse_unless, few_items, cancels_some, fits_in, head_count, legal_heads, table_verdict, older_verdict, record_verdict, request_verdict, build_verdict, convert_verdict, apply_verdict, write_verdict, Verdict}
 use Rattle.rules.specs.Applied.{no_request}
 use Rattle.rules.specs.declared.Request.{Request}
 use Rattle.rules.specs.declared.Refusal.{Refusal}
 use Rattle.rules.specs.declared.Refusal.TheVariants.{RecordLength, CancelsNothing, ShortBuffer, BadHeads, ListDamaged, TooManySegments, AnswerWrong}
-use Rattle.rules.specs.declared.Verdict.{Verdict}
-use Rattle.rules.specs.declared.Verdict.TheVariants.{Accepted, Refused}
 use Rattle.answer_judge.specs.Answerable.{answerable}
 use Rattle.segments.specs.Segments.{most_segments, list_bytes, cut_at, lengths_fit, segment_verdict, pack_verdict}
 use Rattle.wire.specs.MessageRefusals.{message_verdict}
@@ -92,8 +90,8 @@ answer_stage answer = record { lowest = 17; highest = 17; verdict = refuse_unles
 abbrev pub Given : ℕ → List Stage → Type 0
 Given n [] = n ≡ 0
 Given n (s ∷ later) =
-    ((x : Refusal) → s.verdict ≡ Refused x → (n ≡ number_of x) × (s.lowest ≤ n) × (n ≤ s.highest))
-    × (s.verdict ≡ Accepted → Given n later)
+    ((x : Refusal) → s.verdict ≡ Err x → (n ≡ number_of x) × (s.lowest ≤ n) × (n ≤ s.highest))
+    × (s.verdict ≡ Ok tt → Given n later)
 
 pub record Numbered (n : ℕ) (verdict : Verdict) (stages : List Stage) : Type 0 where
   pub its_verdict : n ≡ verdict_number verdict

@@ -1,7 +1,7 @@
 -- Demand 2: a call that document 01 accepts is accepted, changes the reached cells by the rule of its kind and nothing else, and its answer reports those cells in order.
 -- A record that was written reads back as the request and items given, and one that was read is written back to the same bytes.
 -- One of version 1 (document 02, 3/13) comes back as version 2 with the same fields.
-use Rattle.std.specs.Prelude.{◌≡◌, Bool, true, false, ℕ, ◌+◌, ◌*◌, ◌≤◌, ◌<◌, length, take, drop, get_or}
+use Rattle.std.specs.Prelude.{◌≡◌, Bool, true, false, ℕ, ◌+◌, ◌*◌, ◌≤◌, ◌<◌, length, take, drop, get_or, Ok}
 use mathlib.Core.List.{List, [], ◌++◌, map, flat_map}
 use Rattle.std.proofs.lemmas.List.Edits.{sets}
 use Rattle.octets.specs.Runs.{Bytes}
@@ -17,7 +17,6 @@ use Rattle.rules.specs.Applied.{Outcome, written, read_of, item_at, answered, ap
 use Rattle.rules.specs.Reply.{row_by, cell_rows, Row}
 use Rattle.rules.specs.Sound.{fit_request}
 use Rattle.rules.specs.declared.Request.{Request}
-use Rattle.rules.specs.declared.Verdict.TheVariants.{Accepted}
 use Rattle.pws.specs.Surface.{left}
 use Rattle.pws.specs.declared.PwsDone.{PwsDone}
 use Rattle.pws.specs.Promises.{ApplyPromise}
@@ -54,7 +53,7 @@ pub record TableChanged (t r : List ℕ) (o : Outcome) : Type 0 where
   pub same-header : take header_size o.table ≡ take header_size t
   pub same_count : cell_count o.table ≡ cell_count t
   -- it can be the table of the next call
-  pub legal : table_verdict current o.table ≡ Accepted
+  pub legal : table_verdict current o.table ≡ Ok tt
   pub bytes : Bytes o.table
   -- header and cells are all of it
   pub whole : take header_size o.table ++ flat_map (λ c. c) (cell_runs current o.table) ≡ o.table
@@ -132,7 +131,7 @@ pub record AcceptedCall (t r a : List ℕ) (o : Outcome) : Type 0 where
 
 -- of one call: what document 01 accepts is accepted, and what is accepted is done as it says
 pub record Served (t r a : List ℕ) (o : Outcome) : Type 0 where
-  pub accepts : apply_verdict current t r (length a) ≡ Accepted → o.number ≡ 0
+  pub accepts : apply_verdict current t r (length a) ≡ Ok tt → o.number ≡ 0
   pub accepted : o.number ≡ 0 → AcceptedCall t r a o
 
 abbrev pub MeetsDemand2 : CallUnit → Type 0
@@ -147,6 +146,6 @@ pub record Demand2 : Type 0 where
       → Served t r a (left d t' a')
   -- the demand leaves nothing of an accepted call open
   pub one-outcome : (u : CallUnit) → MeetsDemand2 u → (t r a : List ℕ) → Bytes t → Bytes r
-      → apply_verdict current t r (length a) ≡ Accepted → u t r a ≡ applied current t r a
+      → apply_verdict current t r (length a) ≡ Ok tt → u t r a ≡ applied current t r a
   pub write_read : WriteRead
   pub read-write : ReadWrite

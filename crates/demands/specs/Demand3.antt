@@ -1,6 +1,6 @@
 -- Demand 3: calls may come in another order, as long as each two accepted calls that reach a common cell keep theirs.
 -- Then the table is the same, byte for byte, and each call gets the same number, length and answer.
-use Rattle.std.specs.Prelude.{◌≡◌, true, ℕ, ◌<◌, length}
+use Rattle.std.specs.Prelude.{◌≡◌, true, ℕ, ◌<◌, length, Ok}
 use Rattle.std.proofs.Math.Option.{some}
 use mathlib.Core.List.{List, [], ◌∷◌, map, Permᴰ}
 use Rattle.std.proofs.Math.ListN.{get_elem?}
@@ -11,7 +11,6 @@ use Rattle.rules.specs.Record.{one_second, request_of, items_of}
 use Rattle.rules.specs.Reach.{reaches}
 use Rattle.rules.specs.Refusals.{table_verdict}
 use Rattle.rules.specs.Applied.{Outcome, applied}
-use Rattle.rules.specs.declared.Verdict.TheVariants.{Accepted}
 use Rattle.pws.specs.Promises.{ApplyPromise}
 
 -- ---- calls, one after the other
@@ -90,7 +89,7 @@ pub record SameOutcome (xs : List Call) (place : ℕ → ℕ) (first second : Li
 
 abbrev pub Demand3 : Type 0
 Demand3 =
-    (t : List ℕ) → Bytes t → table_verdict current t ≡ Accepted → (xs ys : List Call) (p : Permuted xs ys) → KeepsOrder t xs p.place
+    (t : List ℕ) → Bytes t → table_verdict current t ≡ Ok tt → (xs ys : List Call) (p : Permuted xs ys) → KeepsOrder t xs p.place
     → SameOutcome xs p.place (run t xs) (run t ys)
 
 -- ---- THE CLAIM, of any code that keeps apply's promise
@@ -107,7 +106,7 @@ pub data Chain : List ℕ → List Call → List ℕ → List Result → Type 0 
 
 abbrev pub Demand3OfChains : Type 0
 Demand3OfChains =
-    (t : List ℕ) → Bytes t → table_verdict current t ≡ Accepted → (xs ys : List Call) (p : Permuted xs ys) → KeepsOrder t xs p.place
+    (t : List ℕ) → Bytes t → table_verdict current t ≡ Ok tt → (xs ys : List Call) (p : Permuted xs ys) → KeepsOrder t xs p.place
     → (u v : List ℕ) (rs ss : List Result) → Chain t xs u rs → Chain t ys v ss → SameOutcome xs p.place (u, rs) (v, ss)
 
 -- ---- what the words of the claim cover
@@ -119,13 +118,13 @@ EveryPermutation = (xs ys : List Call) → Permᴰ xs ys → Permuted xs ys
 -- `Meet` may read acceptance off the first table: a call gets the same number, 0 or a refusal's, wherever in a run it stands
 abbrev pub AcceptedAnywhere : Type 0
 AcceptedAnywhere =
-    (t : List ℕ) → Bytes t → table_verdict current t ≡ Accepted → (before : List Call) (c : Call)
+    (t : List ℕ) → Bytes t → table_verdict current t ≡ Ok tt → (before : List Call) (c : Call)
     → (outcome_on (run t before).0 c).number ≡ (outcome_on t c).number
 
 -- and reach too: the cells have the same heads at any time of a run
 abbrev pub CellsStay : Type 0
 CellsStay =
-    (t : List ℕ) → Bytes t → table_verdict current t ≡ Accepted → (before : List Call)
+    (t : List ℕ) → Bytes t → table_verdict current t ≡ Ok tt → (before : List Call)
     → map (λ c. c.head) (cells_of current (run t before).0) ≡ map (λ c. c.head) (cells_of current t)
 
 -- an accepted second reaches every cell: it meets every accepted call that reaches one, with no rule of its own

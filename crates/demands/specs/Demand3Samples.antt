@@ -1,10 +1,9 @@
 -- Demand 3 on real bytes: calls that meet may not change places, calls that do not meet may. Records and tables are document 01's samples (rules, specs/CallSamples).
 -- So the premise can be met by an order that differs, and cannot be left out.
-use Rattle.std.specs.Prelude.{◌≡◌, List, [], ◌∷◌, ◌++◌, ℕ, zero, suc}
+use Rattle.std.specs.Prelude.{◌≡◌, List, [], ◌∷◌, ◌++◌, ℕ, zero, suc, Ok}
 use Rattle.octets.specs.Runs.{Bytes}
 use Rattle.rules.specs.Layout.{current}
 use Rattle.rules.specs.Refusals.{table_verdict}
-use Rattle.rules.specs.declared.Verdict.TheVariants.{Accepted}
 use Rattle.rules.specs.ByHand.{free, answers, says, blank, leaves, one}
 use Rattle.rules.specs.Samples.{two, flood}
 use Rattle.rules.specs.CallSamples.{starting, stopping, starting_here, stopping_there, free_cell, two_cells}
@@ -40,7 +39,7 @@ pub record TheyMeet (start stop : Call) : Type 0 where
 pub record TheyDoNot (start stop : Call) : Type 0 where
   -- every premise of the demand
   pub table-bytes : Bytes two_cells
-  pub legal : table_verdict current two_cells ≡ Accepted
+  pub legal : table_verdict current two_cells ≡ Ok tt
   pub order : Permuted (start ∷ stop ∷ []) (stop ∷ start ∷ [])
   pub keeps : KeepsOrder two_cells (start ∷ stop ∷ []) order.place
   pub this_order : run two_cells (start ∷ stop ∷ [])

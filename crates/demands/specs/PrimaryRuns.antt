@@ -1,6 +1,6 @@
 -- Document 02, 2/13: an earthquake primary goes out every second until it is stopped.
 -- Said of the answers of a run: whatever calls come between, as long as none stops it in a cell, each second's answer has a row for that cell with its content.
-use Rattle.std.specs.Prelude.{◌≡◌, Bool, true, false, not, ◌&&◌, ◌||◌, List, [], ◌∷◌, ℕ, ◌<◌, eqb, length, take}
+use Rattle.std.specs.Prelude.{◌≡◌, Bool, true, false, not, ◌&&◌, ◌||◌, List, [], ◌∷◌, ℕ, ◌<◌, eqb, length, take, Ok}
 use Rattle.std.proofs.Math.Option.{some}
 use Rattle.std.proofs.Math.ListN.{get_elem?}
 use Rattle.octets.specs.Runs.{Bytes}
@@ -14,7 +14,6 @@ use Rattle.rules.specs.Answer.{answer_to, answer_of, answer_bytes}
 use Rattle.rules.specs.Refusals.{table_verdict}
 use Rattle.rules.specs.declared.Place.{Place}
 use Rattle.rules.specs.declared.Request.{Request}
-use Rattle.rules.specs.declared.Verdict.TheVariants.{Accepted}
 use Rattle.demands.specs.Demand3.{Call, Result, outcome_on, run, Accepted_on, Reaches, Chain}
 use Rattle.demands.specs.RowOrder.{cell_in}
 
@@ -79,8 +78,8 @@ pub record PrimaryRuns : Type 0 where
       → running q.identifier q.serial (cell_in t k).places ≡ false → (concurrent q ≡ true → length (cell_in t k).places < places_per_cell)
       → GoesOutIn (outcome_on t c).table k q.identifier q.serial q.content
   -- .. in every second of any calls that do not stop it ..
-  pub goes-out : (t : List ℕ) → Bytes t → table_verdict current t ≡ Accepted → (k identifier serial content : ℕ) → k < cell_count t → GoesOutIn t k identifier serial content
+  pub goes-out : (t : List ℕ) → Bytes t → table_verdict current t ≡ Ok tt → (k identifier serial content : ℕ) → k < cell_count t → GoesOutIn t k identifier serial content
       → (cs : List Call) → Spared identifier serial k t cs → InEachSecond t cs (cell_in t k).head.identity content (run t cs).1
   -- .. and so by any code that keeps apply's promise
-  pub promised : (t : List ℕ) → Bytes t → table_verdict current t ≡ Accepted → (k identifier serial content : ℕ) → k < cell_count t → GoesOutIn t k identifier serial content
+  pub promised : (t : List ℕ) → Bytes t → table_verdict current t ≡ Ok tt → (k identifier serial content : ℕ) → k < cell_count t → GoesOutIn t k identifier serial content
       → (cs : List Call) → Spared identifier serial k t cs → (u : List ℕ) (xs : List Result) → Chain t cs u xs → InEachSecond t cs (cell_in t k).head.identity content xs

@@ -1,14 +1,13 @@
 -- Document 02, 5/13: "Take cancels straight from the wire. .. Read the F1AP PWS CANCEL REQUEST itself".
 -- Said of whatever is returned and left under the promise of `pws_read_cancel`, for any bytes and any buffer.
 -- The message is a tree and a format (wire, MessageTree) with its refusals (MessageRefusals); what it says (MessageSaid), and the record of that (CancelRead), are definitions too.
-use Rattle.std.specs.Prelude.{◌≡◌, true, false, List, [], ◌∷◌, ◌++◌, ℕ, ◌+◌, ◌*◌, ◌<◌, length, take, drop}
+use Rattle.std.specs.Prelude.{◌≡◌, true, false, List, [], ◌∷◌, ◌++◌, ℕ, ◌+◌, ◌*◌, ◌<◌, length, take, drop, Ok}
 use Rattle.octets.specs.Runs.{Bytes}
 use Rattle.rules.specs.Layout.{current, record_size, item_size}
 use Rattle.rules.specs.Record.{items_of}
 use Rattle.rules.specs.Refusals.{number_of, Held, FailsFirst}
 use Rattle.rules.specs.Applied.{read_of}
 use Rattle.rules.specs.declared.Refusal.{Refusal}
-use Rattle.rules.specs.declared.Verdict.TheVariants.{Accepted}
 use Rattle.formats.specs.Format.{found}
 use Rattle.aper.specs.Elements.{Element}
 use Rattle.wire.specs.Frame.{Frame}
@@ -70,7 +69,7 @@ pub record WireCancel : Type 0 where
   pub taken : (message buffer : List ℕ) → Bytes message → (m : PwsMessage) (buffer' : List ℕ) → ReadCancelPromise message buffer m buffer' → m.number ≡ 0
       → CancelTaken message buffer m buffer'
   -- the one that `pws_write` writes of the same Cancel: behind 13 to 16 both give the same number and leave the same bytes
-  pub as_written : (message buffer : List ℕ) → Bytes message → message_verdict CancelRequest message ≡ Accepted
+  pub as_written : (message buffer : List ℕ) → Bytes message → message_verdict CancelRequest message ≡ Ok tt
       → (m : PwsMessage) (buffer' : List ℕ) → ReadCancelPromise message buffer m buffer'
       → (d : PwsDone) (buffer'' : List ℕ) → WritePromise (cancel_request (said_in CancelRequest message)) (named (said_in CancelRequest message)) buffer d buffer''
       → (m.number ≡ d.number) × (m.length ≡ d.length) × (buffer' ≡ buffer'')

@@ -1,7 +1,7 @@
 -- Document 02, 6/13: "And answer on the wire. Write PWS CANCEL RESPONSE and WRITE-REPLACE WARNING RESPONSE from an answer and a transaction identifier .. A reader comes with it".
 -- Said of whatever is returned and left under the promises of `pws_write_response` and `pws_read_response`, for any bytes and any buffers.
 -- The response to an answer is a tree, and its bytes are that tree's encoding (responses, Response); the answer that a response gives is a definition too (ResponseRead).
-use Rattle.std.specs.Prelude.{◌≡◌, true, false, List, [], ℕ, ◌+◌, ◌*◌, ◌≤◌, ◌<◌, length, take, drop}
+use Rattle.std.specs.Prelude.{◌≡◌, true, false, List, [], ℕ, ◌+◌, ◌*◌, ◌≤◌, ◌<◌, length, take, drop, Ok}
 use Rattle.octets.specs.Runs.{Bytes}
 use Rattle.rules.specs.Layout.{current, answer_size, row_size}
 use Rattle.rules.specs.Record.{kind_of}
@@ -9,7 +9,6 @@ use Rattle.rules.specs.Reply.{Row}
 use Rattle.rules.specs.Answer.{answer_of, answer_bytes}
 use Rattle.rules.specs.Refusals.{number_of, Held, FailsFirst}
 use Rattle.rules.specs.declared.Refusal.{Refusal}
-use Rattle.rules.specs.declared.Verdict.TheVariants.{Accepted}
 use Rattle.answer_judge.specs.Answerable.{answerable, ExactAnswers}
 use Rattle.formats.specs.Format.{found}
 use Rattle.wire.specs.Frame.{Frame}
@@ -47,7 +46,7 @@ pub record Sent (answer : List ℕ) (transaction : ℕ) (buffer : List ℕ) (d :
   -- "under the same encoding": of one tree, which fits its message and is what it is read as ..
   pub read_as : ReadAs (sent_as answer) (take d.length buffer') (response_for (sent_as answer) transaction (rows_told answer))
   -- .. and 13 to 16 are not given for it
-  pub passes : message_verdict (answering (take d.length buffer')) (take d.length buffer') ≡ Accepted
+  pub passes : message_verdict (answering (take d.length buffer')) (take d.length buffer') ≡ Ok tt
 
 -- ---- one call that read, and returned 0
 

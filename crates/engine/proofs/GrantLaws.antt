@@ -1,5 +1,6 @@
 -- What an accepted call leaves, from what the code has done.
 -- The walk leaves the table and the rows; the head goes in front of them.
+use Rattle.std.specs.Prelude.{Ok}
 use mathlib.Core.Path.{◌≡◌, sym, ap, ap₂, ◌∙◌}
 use mathlib.Core.Bool.{true, false}
 use mathlib.Core.List.{List, [], ◌++◌, map, flat_map, append-nil}
@@ -21,7 +22,6 @@ use Rattle.rules.specs.Refusals.{apply_verdict}
 use Rattle.rules.specs.Applied.{step_cell, answered, applied}
 use Rattle.rules.specs.Reply.{Row, cell_rows, reply_of}
 use Rattle.rules.specs.declared.Request.{Request}
-use Rattle.rules.specs.declared.Verdict.TheVariants.{Accepted}
 use Rattle.rules.proofs.TestLaws.{both}
 use Rattle.rules.proofs.TableCodec.{table-back}
 use Rattle.rules.proofs.AcceptedRecordLaws.{AcceptedRecord, record-accepted, within-own}
@@ -39,7 +39,7 @@ use Rattle.engine.specs.Walk.{rows_after, table_after, is_idle, WalkOut, Granted
 abbrev head_for : Request → ℕ → List ℕ
 head_for q n = answer_head current q.kind q.identifier q.serial n
 
-module _ (t r a : List ℕ) (bt : Bytes t) (br : Bytes r) (e : apply_verdict current t r (length a) ≡ Accepted) where
+module _ (t r a : List ℕ) (bt : Bytes t) (br : Bytes r) (e : apply_verdict current t r (length a) ≡ Ok tt) where
   call : AcceptedCall current t r (length a)
   call = call_accepted current t r (length a) e
 

@@ -1,10 +1,10 @@
 -- One outcome only: what a public function of this crate returns and leaves, in the table and in the answer, its contract settles.
 -- Each promise is an equation between that and a definition, or a record that has one for each part of it.
+use Rattle.rules.specs.Refusals.{Writing}
 use mathlib.Core.List.{List}
 use Prim.Native.Nat.{ℕ}
 use Rattle.octets.specs.Settled.{Settles, SettlesResult}
 use Rattle.octets.proofs.Once.{one-outcome}
-use Rattle.rules.specs.declared.Writing.{Writing}
 use Rattle.rules.proofs.OnceLaws.{outcome_injective}
 use Rattle.engine.proofs.apply.apply.Reads as apply
 use Rattle.engine.proofs.walk.walk.Reads as walk

@@ -1,5 +1,6 @@
 -- The walk of a request: what holds before the first cell, what a cell's routine asks, and that a cell passed or stepped keeps it.
 -- Walking, with the rules' words for a cell's bytes afterwards and its rows; a reached cell's routine leaves what these say.
+use Rattle.std.specs.Prelude.{Ok}
 use mathlib.Core.Path.{◌≡◌, refl, sym, ap, ◌∙◌}
 use mathlib.Core.Bool.{true, false}
 use mathlib.Core.List.{List, flat_map}
@@ -21,7 +22,6 @@ use Rattle.rules.specs.Refusals.{apply_verdict}
 use Rattle.rules.specs.Applied.{cell_after}
 use Rattle.rules.specs.Reply.{cell_rows}
 use Rattle.rules.specs.declared.Request.{Request}
-use Rattle.rules.specs.declared.Verdict.TheVariants.{Accepted}
 use Rattle.rules.proofs.KindAreaLaws.{rows-most}
 use Rattle.rules.proofs.LegalTableLaws.{table-accepted}
 use Rattle.rules.proofs.AcceptedCallLaws.{call_accepted}
@@ -42,7 +42,7 @@ GoingFrom q items t a =
     let rows = rows_after q items (cell_runs current t) in
     GoingOn q items (table_after q items t (cell_runs current t)) (sets a (answer_size current) (flat_map (row_bytes current) rows)) (length rows) (places_per_cell * most_cells) (length t) (length a)
 
-pub begin : {t : List ℕ} {cells : ℕ} (r : List ℕ) {q : Request} {a : List ℕ} → Bytes t → apply_verdict current t r (length a) ≡ Accepted → cells ≡ cell_count t → q ≡ request_of r
+pub begin : {t : List ℕ} {cells : ℕ} (r : List ℕ) {q : Request} {a : List ℕ} → Bytes t → apply_verdict current t r (length a) ≡ Ok tt → cells ≡ cell_count t → q ≡ request_of r
     → GoingFrom q (items_of r) t a t a header_size (answer_size current) 0 cells
 unfolding table_after rows_after room_for
 begin {t} {cells} r {q} {a} bytes accepted n request =

@@ -1,5 +1,5 @@
 -- What the walk over the cells asks, and what it leaves: the table cell by cell, and the rows behind the answer's head.
-use Rattle.std.specs.Prelude.{◌≡◌, Bool, ◌&&◌, ℕ, ◌+◌, ◌*◌, ◌≤◌, eqb, length, take}
+use Rattle.std.specs.Prelude.{◌≡◌, Bool, ◌&&◌, ℕ, ◌+◌, ◌*◌, ◌≤◌, eqb, length, take, Ok}
 use mathlib.Core.List.{List, ◌++◌, flat_map}
 use Rattle.std.proofs.lemmas.List.Edits.{sets}
 use Rattle.rules.specs.Layout.{current, header_size, answer_size, row_size, places_per_cell, most_cells}
@@ -11,7 +11,6 @@ use Rattle.rules.specs.Refusals.{apply_verdict}
 use Rattle.rules.specs.Applied.{cell_after, applied}
 use Rattle.rules.specs.Reply.{cell_rows, Row}
 use Rattle.rules.specs.declared.Request.{Request}
-use Rattle.rules.specs.declared.Verdict.TheVariants.{Accepted}
 use Rattle.in_cell.specs.Step.{ToStep}
 
 -- the rows of all cells, in order
@@ -24,7 +23,7 @@ table_after q items t runs = take header_size t ++ flat_map (cell_after current 
 
 -- an accepted call, no start that the zero rules stop, with the bytes of the new place made once
 pub record WalkIn (t : List ℕ) (cells : ℕ) (r : List ℕ) (items : ℕ) (q : Request) (new a : List ℕ) : Type 0 where
-  pub accepted : apply_verdict current t r (length a) ≡ Accepted
+  pub accepted : apply_verdict current t r (length a) ≡ Ok tt
   pub all_cells : cells ≡ cell_count t
   pub all_items : items ≡ item_count r
   pub request : q ≡ request_of r
@@ -32,7 +31,7 @@ pub record WalkIn (t : List ℕ) (cells : ℕ) (r : List ℕ) (items : ℕ) (q :
 
 -- an accepted second
 pub record SecondIn (t : List ℕ) (cells : ℕ) (r a : List ℕ) : Type 0 where
-  pub accepted : apply_verdict current t r (length a) ≡ Accepted
+  pub accepted : apply_verdict current t r (length a) ≡ Ok tt
   pub all_cells : cells ≡ cell_count t
   pub second : (request_of r).kind ≡ one_second
 

@@ -1,11 +1,10 @@
 // One request applied to one table: the tests 1 to 8, the walk, the answer's head.
-ghost use Rattle.std.specs.Prelude.{◌≡◌, ◌≤◌, length};
+ghost use Rattle.std.specs.Prelude.{◌≡◌, ◌≤◌, length, Ok};
 ghost use Rattle.rules.specs.Layout.{current, header_size};
 ghost use Rattle.rules.specs.Table.{cell_count};
 ghost use Rattle.rules.specs.Refusals.{apply_verdict};
 ghost use Rattle.rules.specs.Applied.{outcome_by, applied};
 ghost use Rattle.engine.specs.Walk.{Granted, is_idle};
-ghost use Rattle.rules.specs.declared.Verdict.TheVariants.{Accepted};
 
 use crate::walk::walk;
 use answer::{length_with, put_head, room_for};
@@ -13,7 +12,7 @@ use octets::get16;
 use record_read::{count, request};
 use rules::kind::WRITE_REPLACE;
 use rules::layout::CELLS_AT;
-use rules::{Refusal, Request, Verdict, Writing};
+use rules::{Refusal, Request};
 use start::{new_bytes, starts_nothing};
 
 fn cells_of(table: &[u8]) -> usize
@@ -24,20 +23,16 @@ fn cells_of(table: &[u8]) -> usize
 }
 
 // The first of the refusals 1 to 8 that applies.
-fn verdict(table: &[u8], req: &[u8], room: usize) -> Verdict
+fn verdict(table: &[u8], req: &[u8], room: usize) -> Result<(), Refusal>
     ensures { result ≡ apply_verdict current table.now req.now room }
 {
-    if let Verdict::Refused(refusal) = table_judge::verdict(table) {
-        return Verdict::Refused(refusal);
-    }
-    if let Verdict::Refused(refusal) = record_read::verdict(req) {
-        return Verdict::Refused(refusal);
-    }
+    table_judge::verdict(table)?;
+    record_read::verdict(req)?;
     let fields = request(req);
     if room < room_for(fields.kind, cells_of(table)) {
-        return Verdict::Refused(Refusal::ShortBuffer);
+        return Err(Refusal::ShortBuffer);
     }
-    Verdict::Accepted
+    Ok(())
 }
 
 // A start that the zero rules stop.
@@ -52,7 +47,7 @@ fn idle(request: Request) -> bool
 
 // An accepted request: the number of rows. A start that the zero rules stop changes no cell.
 fn grant(table: &mut [u8], req: &[u8], answer: &mut [u8]) -> usize
-    requires { apply_verdict current table.old req.now (length answer.old) ≡ Accepted }
+    requires { apply_verdict current table.old req.now (length answer.old) ≡ Ok tt }
     ensures { Granted table.old req.now answer.old table.new answer.new result }
 {
     let fields = request(req);
@@ -80,12 +75,10 @@ fn grant(table: &mut [u8], req: &[u8], answer: &mut [u8]) -> usize
     rows
 }
 
-pub fn apply(table: &mut [u8], req: &[u8], answer: &mut [u8]) -> Writing
+pub fn apply(table: &mut [u8], req: &[u8], answer: &mut [u8]) -> Result<usize, Refusal>
     ensures { outcome_by result table.new answer.new ≡ applied current table.old req.now answer.old }
 {
-    if let Verdict::Refused(refusal) = verdict(table, req, answer.len()) {
-        return Writing::Unwritten(refusal);
-    }
+    verdict(table, req, answer.len())?;
     let rows = grant(table, req, answer);
-    Writing::Written(length_with(rows))
+    Ok(length_with(rows))
 }

@@ -1,8 +1,7 @@
 -- What the results of the surface's functions, with the buffers that they leave, say.
 use Rattle.std.specs.Prelude.{List, ℕ}
-use Rattle.rules.specs.Refusals.{number_of, writing_number, writing_length}
+use Rattle.rules.specs.Refusals.{number_of, writing_number, writing_length, Writing}
 use Rattle.rules.specs.Applied.{Filled, ReadOutcome, Outcome}
-use Rattle.rules.specs.declared.Writing.{Writing}
 use Rattle.segments.specs.Segments.{Lies}
 use Rattle.wire.specs.MessageOutcome.{MessageOutcome}
 use Rattle.wire.specs.declared.Taking.{Taking}

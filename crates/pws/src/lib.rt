@@ -7,7 +7,7 @@ ghost use Rattle.rules.specs.Applied.{no_request};
 ghost use Rattle.pws.specs.Surface.{done_by, message_by};
 ghost use Rattle.pws.specs.Promises.{BuildPromise, ConvertPromise, ApplyPromise, ReadPromise, WritePromise, ItemPromise, SegmentPromise, PackPromise, ReadCancelPromise, WriteResponsePromise, ReadResponsePromise};
 
-use rules::{Broadcasts, Reading, Request, Seconds, Writing};
+use rules::{Broadcasts, Refusal, Request, Seconds};
 use segments::read::Part;
 use wire::Taking;
 
@@ -48,7 +48,7 @@ pub struct PwsMessage {
     pub length: usize,
 }
 
-fn done(writing: Writing) -> PwsDone
+fn done(writing: Result<usize, Refusal>) -> PwsDone
     ensures { result ≡ done_by writing }
 {
     PwsDone {
@@ -79,12 +79,12 @@ pub fn pws_read(req: &[u8]) -> PwsReading
     ensures { ReadPromise req.now result }
 {
     match record_read::read(req) {
-        Reading::Fields(request, items) => PwsReading {
+        Ok((request, items)) => PwsReading {
             number: 0,
             request,
             items,
         },
-        Reading::Unread(refusal) => PwsReading {
+        Err(refusal) => PwsReading {
             number: refusal.number(),
             request: nothing(),
             items: 0,

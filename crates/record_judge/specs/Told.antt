@@ -4,10 +4,9 @@ use Rattle.std.specs.Prelude.{Bool, false, cond, not, ◌&&◌, ◌||◌, [], �
 use Rattle.rules.specs.Lists.{one_of}
 use Rattle.rules.specs.Layout.{first_sib, last_sib}
 use Rattle.rules.specs.Record.{write_replace, cancel_or_kill, Kind, a_write_replace, a_cancel, a_restart, a_failure, a_second, unknown_kind, kind_of, no_area, cell_area, any_area, item_end}
-use Rattle.rules.specs.Refusals.{test, first_of}
+use Rattle.rules.specs.Refusals.{test, first_of, Verdict}
 use Rattle.rules.specs.declared.Seconds.{Seconds}
 use Rattle.rules.specs.declared.Refusal.TheVariants.{RecordFields, RecordLimits, CancelsNothing}
-use Rattle.rules.specs.declared.Verdict.{Verdict}
 
 -- ---- 5
 

@@ -12,7 +12,7 @@ use rules::kind::{
     ONE_SECOND, RESTART, TRACKING_AREAS, WRITE_REPLACE,
 };
 use rules::layout::{CELL_END, EMERGENCY_END, FIRST_SIB, LAST_SIB, TRACKING_END};
-use rules::{Refusal, Seconds, Verdict};
+use rules::{Refusal, Seconds};
 
 // ---- 5: flags, areas and zero fields by kind
 
@@ -116,23 +116,23 @@ pub fn judged(
     n: usize,
     any: u64,
     longest: Seconds,
-) -> Verdict
+) -> Result<(), Refusal>
     ensures { result ≡ told_verdict kind flags area period sib textless omitted n any longest }
 {
     if !kind_allows(kind, flags, area, textless, omitted) {
-        return Verdict::Refused(Refusal::RecordFields);
+        return Err(Refusal::RecordFields);
     }
     if !area_fits(area, n) {
-        return Verdict::Refused(Refusal::RecordFields);
+        return Err(Refusal::RecordFields);
     }
     if !text_within(kind, period, sib, longest) {
-        return Verdict::Refused(Refusal::RecordLimits);
+        return Err(Refusal::RecordLimits);
     }
     if !items_small(area, n, any) {
-        return Verdict::Refused(Refusal::RecordLimits);
+        return Err(Refusal::RecordLimits);
     }
     if cancels_nothing(kind, flags) {
-        return Verdict::Refused(Refusal::CancelsNothing);
+        return Err(Refusal::CancelsNothing);
     }
-    Verdict::Accepted
+    Ok(())
 }

@@ -1,5 +1,6 @@
 -- The items of an accepted record, one by one: what `item` returns is what the record says, and a loop over them meets each once.
 -- An item is the piece of the record at its place.
+use Rattle.std.specs.Prelude.{Ok}
 use mathlib.Core.Path.{◌≡◌, sym, ◌∙◌}
 use mathlib.Core.List.{List, [], ◌∷◌}
 use Prim.Native.Nat.{ℕ, ◌+◌, ◌*◌, ◌≤◌, ◌<◌}
@@ -17,7 +18,6 @@ use Rattle.rules.specs.Layout.{current, record_size, item_size}
 use Rattle.rules.specs.Record.{item_count, items_of}
 use Rattle.rules.specs.Refusals.{record_verdict}
 use Rattle.rules.specs.Applied.{item_at}
-use Rattle.rules.specs.declared.Verdict.TheVariants.{Accepted}
 use Rattle.rules.proofs.TestLaws.{by_test}
 use Rattle.rules.proofs.RecordCodec.{length_items_of}
 use Rattle.rules.proofs.AcceptedRecordLaws.{record-accepted}
@@ -35,7 +35,7 @@ module _ (r : List ℕ) (k : ℕ) where
 
 -- ---- an accepted record
 
-module _ (r : List ℕ) (a : record_verdict current r ≡ Accepted) (k : ℕ) where
+module _ (r : List ℕ) (a : record_verdict current r ≡ Ok tt) (k : ℕ) where
   item_of : k < item_count r → be (gets r (record_size + item_size current * k) (item_size current)) ≡ get_or (items_of r) k 0
   unfolding items_of be
   item_of h =

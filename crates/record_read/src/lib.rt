@@ -20,7 +20,7 @@ use rules::layout::{
     MOST_ITEMS, RECORD, RECORD_CONTENT_AT, RECORD_PERIOD_AT, RECORD_REQUESTED_AT, RECORD_SIB_AT,
     SERIAL_AT, VERSION_1, VERSION_AT, ZERO_AT,
 };
-use rules::{Broadcasts, Reading, Refusal, Request, Seconds, Verdict};
+use rules::{Broadcasts, Refusal, Request, Seconds};
 
 // The fields of a record.
 pub fn request(req: &[u8]) -> Request
@@ -81,7 +81,7 @@ fn cancel_zeros(req: &[u8]) -> bool
 
 // The first of the refusals 5, 6 and 7 that applies to the fields and n items. The items are joined first: with no loop between it and the
 // judge, a test for zero is made only for the kinds that ask for it.
-fn fields_judged(req: &[u8], n: usize) -> Verdict
+fn fields_judged(req: &[u8], n: usize) -> Result<(), Refusal>
     requires { record_size + item_size current * n ≤ length req.now }
     ensures { result ≡ request_verdict (longest_asked req.now) (request_of req.now) (map be (pieces (item_size current) n (drop record_size req.now))) }
 {
@@ -102,33 +102,31 @@ fn fields_judged(req: &[u8], n: usize) -> Verdict
 }
 
 // The first of the refusals 3 to 7 that applies to any bytes.
-pub fn verdict(req: &[u8]) -> Verdict
+pub fn verdict(req: &[u8]) -> Result<(), Refusal>
     ensures { result ≡ record_verdict current req.now }
 {
     if !marked(req) {
-        return Verdict::Refused(Refusal::RecordMark);
+        return Err(Refusal::RecordMark);
     }
     let n = count(req);
     if MOST_ITEMS < n {
-        return Verdict::Refused(Refusal::RecordLength);
+        return Err(Refusal::RecordLength);
     }
     if req.len() != RECORD + ITEM * n {
-        return Verdict::Refused(Refusal::RecordLength);
+        return Err(Refusal::RecordLength);
     }
     if get8(req, ZERO_AT) != 0 {
-        return Verdict::Refused(Refusal::RecordFields);
+        return Err(Refusal::RecordFields);
     }
     fields_judged(req, n)
 }
 
 // The fields and the count of items, or why there are none.
-pub fn read(req: &[u8]) -> Reading
+pub fn read(req: &[u8]) -> Result<(Request, usize), Refusal>
     ensures { read_by result ≡ read_of req.now }
 {
-    match verdict(req) {
-        Verdict::Accepted => Reading::Fields(request(req), count(req)),
-        Verdict::Refused(refusal) => Reading::Unread(refusal),
-    }
+    verdict(req)?;
+    Ok((request(req), count(req)))
 }
 
 // The item number k of a record, 0 where the record ends before it.

@@ -1,5 +1,6 @@
 -- Demand 2 on records, of what `write`, `read` and `item` promise: what was written reads back as given; what was read is written as the same bytes.
 -- Each promise is an equation with a definition of the rules, so the round trips of those definitions carry over; an answer with number 0 is no refusal.
+use Rattle.std.specs.Prelude.{Ok}
 use mathlib.Core.Path.{◌≡◌, sym, ap, ◌∙◌}
 use mathlib.Core.Bool.{true}
 use mathlib.Core.List.{List}
@@ -10,15 +11,10 @@ use borrow.Author.Tests.{lt-ltb}
 use Rattle.octets.specs.Runs.{Bytes}
 use Rattle.rules.specs.Layout.{current, record_size, item_size, record_version}
 use Rattle.rules.specs.Record.{request_numbers, version_in, item_count, items_of, renewed}
-use Rattle.rules.specs.Refusals.{writing_number, writing_length, record_verdict}
+use Rattle.rules.specs.Refusals.{writing_number, writing_length, record_verdict, Writing, Reading}
 use Rattle.rules.specs.Applied.{Filled, ReadOutcome, filled_by, item_at, read_by, reading, read_of, written}
 use Rattle.rules.specs.Sound.{fits, fit_request}
-use Rattle.rules.specs.declared.Writing.{Writing}
-use Rattle.rules.specs.declared.Writing.TheVariants.{Written}
-use Rattle.rules.specs.declared.Reading.{Reading}
-use Rattle.rules.specs.declared.Reading.TheVariants.{Fields}
 use Rattle.rules.specs.declared.Request.{Request}
-use Rattle.rules.specs.declared.Verdict.TheVariants.{Accepted}
 use Rattle.rules.proofs.OnceLaws.{writing_injective, reading_injective}
 use Rattle.rules.proofs.OutcomeLaws.{read-accepted}
 use Rattle.rules.proofs.RecordCodec.{length_items_of}
@@ -52,8 +48,8 @@ module _ (q : Request) (items buffer : List ℕ) (fit : fit_request q ≡ true) 
   written-size = same_length ∙ was_written.size
 
   -- whatever `read` answers of the bytes that were written: the request, and as many items
-  pub written_read : (y : Reading) → read_by y ≡ read_of (take (writing_length x) b) → y ≡ Fields q (length items)
-  written_read y e = reading_injective y (Fields q (length items)) (e ∙ rw same_bytes was_written.reads)
+  pub written_read : (y : Reading) → read_by y ≡ read_of (take (writing_length x) b) → y ≡ Ok (q, (length items))
+  written_read y e = reading_injective y (Ok (q, (length items))) (e ∙ rw same_bytes was_written.reads)
 
   -- and `item` gives each of them
   pub written-item : (k : ℕ) → item_at (take (writing_length x) b) k ≡ get_or items k 0
@@ -64,12 +60,12 @@ module _ (q : Request) (items buffer : List ℕ) (fit : fit_request q ≡ true) 
 -- ---- read, then written
 
 -- `q` and `n` are what `read` answered of the bytes `r`, and `items` what `item` gave for each k below n
-module _ (r : List ℕ) (bytes : Bytes r) (q : Request) (n : ℕ) (promise : read_by (Fields q n) ≡ read_of r)
+module _ (r : List ℕ) (bytes : Bytes r) (q : Request) (n : ℕ) (promise : read_by (Ok (q, n)) ≡ read_of r)
     (items : List ℕ) (count : length items ≡ n) (each : (k : ℕ) → k < n → get_or items k 0 ≡ item_at r k) where
   read_number : (read_of r).number ≡ 0
   read_number = sym (ap (λ (o : ReadOutcome). o.number) promise)
 
-  read-verdict : record_verdict current r ≡ Accepted
+  read-verdict : record_verdict current r ≡ Ok tt
   read-verdict = read-accepted r read_number
 
   read_count : n ≡ item_count r
@@ -83,15 +79,15 @@ module _ (r : List ℕ) (bytes : Bytes r) (q : Request) (n : ℕ) (promise : rea
 
   module _ (buffer : List ℕ) (room : length r ≤ length buffer) (x : Writing) (b : List ℕ) (wrote : filled_by x b ≡ written q items buffer) where
     -- whatever `write` answers and leaves where there is room: the same record in the writer's version, and the bytes behind it as they were
-    pub read-written : (x ≡ Written (length r)) × (b ≡ sets buffer 0 (renewed r))
+    pub read-written : (x ≡ Ok (length r)) × (b ≡ sets buffer 0 (renewed r))
     read-written =
         let request : q ≡ (read_of r).request = ap (λ (o : ReadOutcome). o.request) promise in
         let w : filled_by x b ≡ record { number = 0; length = length r; buffer = sets buffer 0 (renewed r) } =
         wrote ∙ rw (request, read-items) (read-write r buffer bytes read_number room) in
-        (writing_injective x (Written (length r)) (ap (λ (f : Filled). f.number) w) (ap (λ (f : Filled). f.length) w), ap (λ (f : Filled). f.buffer) w)
+        (writing_injective x (Ok (length r)) (ap (λ (f : Filled). f.number) w) (ap (λ (f : Filled). f.length) w), ap (λ (f : Filled). f.buffer) w)
 
     -- of a record of that version: the same bytes again
-    pub own-written : version_in r ≡ record_version → (x ≡ Written (length r)) × (b ≡ sets buffer 0 r)
+    pub own-written : version_in r ≡ record_version → (x ≡ Ok (length r)) × (b ≡ sets buffer 0 r)
     own-written e =
         let long : record_size ≤ length r = (record-accepted current r read-verdict).long in
         (read-written.0, read-written.1 ∙ rw (renewed-same r long bytes e))

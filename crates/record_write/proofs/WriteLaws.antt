@@ -1,5 +1,6 @@
 -- What the writer stores is the record of the rules: field behind field, item behind item, and the tests 4 to 8 in their order.
 -- A store behind a store is one store of both (`sets-run`), so a chain of them stores what the layout gives.
+use Rattle.std.specs.Prelude.{Ok, Err}
 use mathlib.Core.Path.{◌≡◌, refl, sym, ◌∙◌}
 use mathlib.Core.List.{List, [], ◌∷◌, flat_map}
 use Prim.Native.Nat.{ℕ, suc, ◌+◌, ◌*◌, ◌<◌, ◌≤◌}
@@ -15,14 +16,11 @@ use Rattle.octets.proofs.PiecesLaws.{length-flat_map}
 use Rattle.octets.proofs.NumbersLaws.{length-to_be}
 use Rattle.rules.specs.Layout.{current, longest_period, record_fields, record_size, item_size, record_mark, record_version, most_items}
 use Rattle.rules.specs.Record.{request_numbers, record_bytes}
-use Rattle.rules.specs.Refusals.{request_verdict, write_verdict}
+use Rattle.rules.specs.Refusals.{request_verdict, write_verdict, Verdict}
 use Rattle.rules.specs.Applied.{fill, filled_by, written}
 use Rattle.rules.specs.declared.Request.{Request}
-use Rattle.rules.specs.declared.Writing.TheVariants.{Written, Unwritten}
 use Rattle.rules.specs.declared.Refusal.{Refusal}
 use Rattle.rules.specs.declared.Refusal.TheVariants.{RecordLength, ShortBuffer}
-use Rattle.rules.specs.declared.Verdict.{Verdict}
-use Rattle.rules.specs.declared.Verdict.TheVariants.{Accepted, Refused}
 use Rattle.rules.proofs.LayoutLaws.{record-size}
 use Rattle.rules.proofs.FitLaws.{length-written}
 use Rattle.rules.proofs.VerdictLaws.{write_chain}
@@ -93,18 +91,18 @@ fields_put q n l {a} {b} {c} e₁ e₂ e₃ e₄ =
 -- ---- 4 (n only), 5, 6, 7 and 8 in their order
 
 module _ (q : Request) (items : List ℕ) (room : ℕ) where
-  pub many-refused : most_items < length items → Refused RecordLength ≡ write_verdict q items room
+  pub many-refused : most_items < length items → Err RecordLength ≡ write_verdict q items room
   many-refused t = rw (write_chain q items room, lt-leb (length items) most_items t)
 
   module _ (few : length items ≤ most_items) {v : Verdict} (e : v ≡ request_verdict (longest_period current) q items) where
-    pub request-refused : {x : Refusal} → v ≡ Refused x → Refused x ≡ write_verdict q items room
+    pub request-refused : {x : Refusal} → v ≡ Err x → Err x ≡ write_verdict q items room
     request-refused t = rw (write_chain q items room, le-leb (length items) most_items few, ← e, t)
 
-    module _ (t : v ≡ Accepted) where
-      pub room-refused : room < record_size + item_size current * length items → Refused ShortBuffer ≡ write_verdict q items room
+    module _ (t : v ≡ Ok tt) where
+      pub room-refused : room < record_size + item_size current * length items → Err ShortBuffer ≡ write_verdict q items room
       room-refused h = rw (write_chain q items room, le-leb (length items) most_items few, ← e, t, lt-leb (record_size + item_size current * length items) room h)
 
-      pub writing_allowed : record_size + item_size current * length items ≤ room → Accepted ≡ write_verdict q items room
+      pub writing_allowed : record_size + item_size current * length items ≤ room → (Ok tt) ≡ write_verdict q items room
       writing_allowed h = rw (write_chain q items room, le-leb (length items) most_items few, ← e, t, le-leb (record_size + item_size current * length items) room h)
 
 -- ---- what is written
@@ -124,15 +122,15 @@ one_store q items l =
     sets-run (bytes_of record_fields (request_numbers q (length items))) (flat_map (to_be (item_size current)) items) l 0 record_size (omega (arith, fields_size q (length items)))
 
 module _ (q : Request) (items buffer : List ℕ) {v : Verdict} (e : v ≡ write_verdict q items (length buffer)) where
-  pub allowed_writing : v ≡ Accepted → AcceptedWriting q items (length buffer)
+  pub allowed_writing : v ≡ Ok tt → AcceptedWriting q items (length buffer)
   allowed_writing t = writing_accepted q items (length buffer) (sym e ∙ t)
 
-  pub record_put : v ≡ Accepted → {a b : List ℕ} → a ≡ sets buffer 0 (bytes_of record_fields (request_numbers q (length items)))
+  pub record_put : v ≡ Ok tt → {a b : List ℕ} → a ≡ sets buffer 0 (bytes_of record_fields (request_numbers q (length items)))
       → b ≡ sets a record_size (flat_map (to_be (item_size current)) items)
-      → filled_by (Written (record_size + item_size current * length items)) b ≡ written q items buffer
+      → filled_by (Ok (record_size + item_size current * length items)) b ≡ written q items buffer
   unfolding written fill
   record_put t p₁ p₂ = rw (← e, t, bytes-size q items, p₂, p₁, one_store q items buffer)
 
-  pub nothing_put : {x : Refusal} → v ≡ Refused x → filled_by (Unwritten x) buffer ≡ written q items buffer
+  pub nothing_put : {x : Refusal} → v ≡ Err x → filled_by (Err x) buffer ≡ written q items buffer
   unfolding written fill
   nothing_put t = rw (← e, t)

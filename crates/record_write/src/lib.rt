@@ -20,7 +20,7 @@ use rules::layout::{
     RECORD_CONTENT_AT, RECORD_MARK, RECORD_PERIOD_AT, RECORD_REQUESTED_AT, RECORD_SIB_AT,
     RECORD_VERSION, SERIAL_AT, VERSION_AT, ZERO_AT,
 };
-use rules::{Refusal, Request, Seconds, Verdict, Writing};
+use rules::{Refusal, Request, Seconds};
 
 // ---- whether it is written: document 01, "The request record"
 
@@ -58,15 +58,15 @@ fn any_item(items: &[u64]) -> u64
 }
 
 // The first of the refusals 4 (n only), 5, 6, 7 and 8 that applies.
-fn verdict(request: Request, items: &[u64], room: usize) -> Verdict
+fn verdict(request: Request, items: &[u64], room: usize) -> Result<(), Refusal>
     ensures { result ≡ write_verdict request items.now room }
 {
     let n = items.len();
     if MOST_ITEMS < n {
-        return Verdict::Refused(Refusal::RecordLength);
+        return Err(Refusal::RecordLength);
     }
     let any = any_item(items);
-    let judgement = judged(
+    judged(
         request.kind,
         request.flags,
         request.area,
@@ -77,14 +77,11 @@ fn verdict(request: Request, items: &[u64], room: usize) -> Verdict
         n,
         any,
         Seconds(LONGEST_PERIOD),
-    );
-    if let Verdict::Refused(refusal) = judgement {
-        return Verdict::Refused(refusal);
-    }
+    )?;
     if room < RECORD + ITEM * n {
-        return Verdict::Refused(Refusal::ShortBuffer);
+        return Err(Refusal::ShortBuffer);
     }
-    Verdict::Accepted
+    Ok(())
 }
 
 // ---- the fields, by their numbers in the layout
@@ -163,15 +160,11 @@ fn put_items(buffer: &mut [u8], items: &[u64])
 // ---- both
 
 // The record of a request and its items at the start of the buffer; bytes behind it stay. A refusal writes nothing.
-pub fn write(request: Request, items: &[u64], buffer: &mut [u8]) -> Writing
+pub fn write(request: Request, items: &[u64], buffer: &mut [u8]) -> Result<usize, Refusal>
     ensures { filled_by result buffer.new ≡ written request items.now buffer.old }
 {
-    match verdict(request, items, buffer.len()) {
-        Verdict::Accepted => {
-            put_fields(buffer, request, items.len() as u16);
-            put_items(buffer, items);
-            Writing::Written(RECORD + ITEM * items.len())
-        }
-        Verdict::Refused(refusal) => Writing::Unwritten(refusal),
-    }
+    verdict(request, items, buffer.len())?;
+    put_fields(buffer, request, items.len() as u16);
+    put_items(buffer, items);
+    Ok(RECORD + ITEM * items.len())
 }

@@ -1,6 +1,7 @@
 -- Framing does not depend on how the input comes: a record that is taken is the one that the whole input has there.
 -- And a record that the end of the input cuts off is the last: the reader gives 3 or 4 for what is there, and both stop the program.
 -- The first 26 bytes settle a record's size; what is shorter than its own size is refused by its mark or its length.
+use Rattle.std.specs.Prelude.{Ok, Err}
 use mathlib.Core.Path.{◌≡◌, refl, sym, ◌∙◌}
 use mathlib.Core.Bool.{Bool, true, false, ◌&&◌, false≢true}
 use mathlib.Core.List.{List, ◌++◌}
@@ -15,11 +16,9 @@ use Rattle.octets.proofs.FieldsLaws.{numbers_append}
 use Rattle.rules.specs.Layout.{current, version_number, mark_field, record_fields, record_size, record_mark, item_size, most_items}
 use Rattle.rules.specs.Table.{table_marked, legal_table}
 use Rattle.rules.specs.Record.{version_in, takes_version, request_of, item_count, items_of, record_marked}
-use Rattle.rules.specs.Refusals.{verdict_number, ◌then◌, table_verdict, record_verdict, apply_verdict}
+use Rattle.rules.specs.Refusals.{verdict_number, ◌then◌, table_verdict, record_verdict, apply_verdict, Verdict}
 use Rattle.rules.specs.Applied.{outcome, applied}
 use Rattle.rules.specs.declared.Request.{Request}
-use Rattle.rules.specs.declared.Verdict.{Verdict}
-use Rattle.rules.specs.declared.Verdict.TheVariants.{Accepted, Refused}
 use Rattle.rules.proofs.LayoutLaws.{record-size}
 use Rattle.rules.proofs.TestLaws.{both, by_test}
 use Rattle.rules.proofs.VerdictLaws.{apply_chain}
@@ -71,14 +70,14 @@ stops_3 = refl
 
 number_of : (v : Verdict) (q : Request) (items t a : List ℕ) → (outcome current v q items t a).number ≡ verdict_number v
 unfolding outcome
-number_of Accepted q items t a = refl
-number_of (Refused x) q items t a = refl
+number_of (Ok tt) q items t a = refl
+number_of (Err x) q items t a = refl
 
 -- a verdict that stops the program does so whatever is tested behind it
 stays_stopped : (v w : Verdict) → stops_at (verdict_number v) ≡ true → stops_at (verdict_number (v then w)) ≡ true
 unfolding stops_at
-stays_stopped Accepted w e = absurd (false≢true e)
-stays_stopped (Refused x) w e = e
+stays_stopped (Ok tt) w e = absurd (false≢true e)
+stays_stopped (Err x) w e = e
 
 -- and behind the tests of a table, of which each stops it too
 table-stops : (t : List ℕ) (w : Verdict) → stops_at (verdict_number w) ≡ true → stops_at (verdict_number (table_verdict current t then w)) ≡ true

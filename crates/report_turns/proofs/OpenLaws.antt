@@ -1,4 +1,5 @@
 -- What `open_table` and its parts find at the front of the bytes at hand, and what they do with it, is the turn that the definition has.
+use Rattle.std.specs.Prelude.{Ok, Err}
 use mathlib.Core.Path.{◌≡◌, refl, sym, ap, ◌∙◌}
 use mathlib.Core.Bool.{Bool, true, false, cond, ◌&&◌, ◌||◌}
 use mathlib.Core.List.{List, [], ◌++◌}
@@ -9,10 +10,8 @@ use lib.ListN.{length, take, drop, take-append-drop}
 use lib.Seq.{length-take-le}
 use borrow.Author.Tests.{le-leb, lt-leb, leb-false, ne_eqb}
 use Rattle.rules.specs.Layout.{current, head_size}
-use Rattle.rules.specs.Refusals.{number_of}
+use Rattle.rules.specs.Refusals.{number_of, Writing}
 use Rattle.rules.specs.Applied.{Filled, filled_by, built}
-use Rattle.rules.specs.declared.Writing.{Writing}
-use Rattle.rules.specs.declared.Writing.TheVariants.{Written, Unwritten}
 use Rattle.rules.specs.declared.Refusal.{Refusal}
 use Rattle.rules.proofs.OutcomeLaws.{number_positive, built-refused}
 use Rattle.rules.proofs.TestLaws.{by_test}
@@ -27,9 +26,9 @@ use Rattle.report_turns.proofs.OpeningLaws.{at_least, within}
 use Rattle.report_turns.proofs.StoredLaws.{sets_all, sets-take, part-stored}
 
 -- what was not left unwritten was written
-pub written-if : (w : Writing) → ((x : Refusal) → w ≡ Unwritten x → ⊥) → (n : ℕ) × (w ≡ Written n)
-written-if (Written n) not = (n, refl)
-written-if (Unwritten x) not = absurd (not x refl)
+pub written-if : (w : Writing) → ((x : Refusal) → w ≡ Err x → ⊥) → (n : ℕ) × (w ≡ Ok n)
+written-if (Ok n) not = (n, refl)
+written-if (Err x) not = absurd (not x refl)
 
 -- ---- N and the heads
 
@@ -88,22 +87,22 @@ module _ (n : ℕ) (heads t a buffer' out : List ℕ) (at : ℕ) (x : Writing) (
   abbrev asked : Program
   asked = record { cells = 0; table = t; answer = a }
 
-  pub refused_stepped : (y : Refusal) (m : ℕ) (r : Took) (out' : List ℕ) → x ≡ Unwritten y → m ≡ number_of y → Stepped (stopping (no_text m) asked) t a out at r t a out'
+  pub refused_stepped : (y : Refusal) (m : ℕ) (r : Took) (out' : List ℕ) → x ≡ Err y → m ≡ number_of y → Stepped (stopping (no_text m) asked) t a out at r t a out'
       → Stepped (opened n (program_in 0 t a) (built heads (take (table_size n) t))) t a out at r (buffer' ++ drop (table_size n) t) a out'
   unfolding opened program_in
   refused_stepped y m r out' w k s =
-      let o : filled_by (Unwritten y) buffer' ≡ built heads (take (table_size n) t) = rw w at e in
+      let o : filled_by (Err y) buffer' ≡ built heads (take (table_size n) t) = rw w at e in
       let number : number_of y ≡ (built heads (take (table_size n) t)).number = ap (λ (f : Filled). f.number) o in
       let some : (built heads (take (table_size n) t)).number ≡ 0 → ⊥ = λ (z : (built heads (take (table_size n) t)).number ≡ 0). omega (arith, number_positive y, number) in
       let same : buffer' ≡ take (table_size n) t = ap (λ (f : Filled). f.buffer) o ∙ (built-refused heads (take (table_size n) t) some).1 in
       rw (same, take-append-drop (table_size n) t, ne_eqb (built heads (take (table_size n) t)).number 0 some, ← number, ← k) s
 
-  pub made_stepped : (m : ℕ) → x ≡ Written m → length buffer' ≡ table_size n → table_size n ≤ length t → answer_room n ≤ length a
+  pub made_stepped : (m : ℕ) → x ≡ Ok m → length buffer' ≡ table_size n → table_size n ≤ length t → answer_room n ≤ length a
       → Stepped (opened n (program_in 0 t a) (built heads (take (table_size n) t))) t a out at
       (record { cells = n; bytes = heads_end n; end = at; waits = false; stops = false }) (buffer' ++ drop (table_size n) t) a out
   unfolding opened program_in
   made_stepped m w long h room =
-      let o : filled_by (Written m) buffer' ≡ built heads (take (table_size n) t) = rw w at e in
+      let o : filled_by (Ok m) buffer' ≡ built heads (take (table_size n) t) = rw w at e in
       rw (← o)
       record {
         cells = refl;

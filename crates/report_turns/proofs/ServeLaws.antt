@@ -1,5 +1,6 @@
 -- Laws of one request: an accepted one leaves an answer that lies in its buffer, and what is told of either is what `said_of` says.
 -- By the two cases of the verdict, and of what the library returned.
+use Rattle.std.specs.Prelude.{Ok, Err}
 use mathlib.Core.Path.{◌≡◌, refl, sym, ap, subst, ◌∙◌}
 use mathlib.Core.Bool.{Bool, false}
 use mathlib.Core.List.{List}
@@ -12,13 +13,9 @@ use borrow.Author.Tests.{ne_eqb}
 use Rattle.octets.specs.Runs.{Bytes}
 use Rattle.rules.specs.Layout.{current, answer_size, row_size, places_per_cell, most_cells}
 use Rattle.rules.specs.Answer.{row_count, answer_of, answer_bytes}
-use Rattle.rules.specs.Refusals.{number_of, apply_verdict}
+use Rattle.rules.specs.Refusals.{number_of, apply_verdict, Verdict, Writing}
 use Rattle.rules.specs.Applied.{Outcome, answered, outcome, outcome_by, applied}
-use Rattle.rules.specs.declared.Writing.{Writing}
-use Rattle.rules.specs.declared.Writing.TheVariants.{Written, Unwritten}
 use Rattle.rules.specs.declared.Refusal.{Refusal}
-use Rattle.rules.specs.declared.Verdict.{Verdict}
-use Rattle.rules.specs.declared.Verdict.TheVariants.{Accepted, Refused}
 use Rattle.rules.proofs.AppliedLaws.{answer-fits, applied-answer, applied-written}
 use Rattle.rules.proofs.LegalAnswerLaws.{legal-answer}
 use Rattle.rules.proofs.AnsweredLaws.{applied-answer-legal}
@@ -38,7 +35,7 @@ pub record Lies (n : ℕ) (told : List ℕ) : Type 0 where
   pub whole : n ≡ answer_size current + row_size current * row_count current (take n told)
 
 module _ (t r a : List ℕ) (bt : Bytes t) (br : Bytes r) where
-  accepted-lies : apply_verdict current t r (length a) ≡ Accepted → Lies (applied current t r a).length (applied current t r a).answer
+  accepted-lies : apply_verdict current t r (length a) ≡ Ok tt → Lies (applied current t r a).length (applied current t r a).answer
   accepted-lies v =
       let n = applied-written current t r a bt br v in
       let b : length (applied current t r a).answer ≡ length a = rw (applied-answer current t r a bt br v) (length-sets a 0 (answer_bytes current (answered current t r))) in
@@ -46,14 +43,14 @@ module _ (t r a : List ℕ) (bt : Bytes t) (br : Bytes r) where
       let size = length-take-le (applied current t r a).length (applied current t r a).answer most in
       record { most = most; size = size; whole = sym size ∙ (legal-answer current _ (applied-answer-legal current t r a bt br v)).size }
 
-  by_verdict : (v : Verdict) → apply_verdict current t r (length a) ≡ v → (n : ℕ) (t' a' : List ℕ) → outcome_by (Written n) t' a' ≡ applied current t r a → Lies n a'
+  by_verdict : (v : Verdict) → apply_verdict current t r (length a) ≡ v → (n : ℕ) (t' a' : List ℕ) → outcome_by (Ok n) t' a' ≡ applied current t r a → Lies n a'
   unfolding applied outcome
-  by_verdict Accepted v n t' a' e = subst (λ (o : Outcome). Lies o.length o.answer) (sym e) (accepted-lies v)
-  by_verdict (Refused x) v n t' a' e =
+  by_verdict (Ok tt) v n t' a' e = subst (λ (o : Outcome). Lies o.length o.answer) (sym e) (accepted-lies v)
+  by_verdict (Err x) v n t' a' e =
       let z : 0 ≡ number_of x = ap (λ (o : Outcome). o.number) e ∙ rw v in
       absurd (omega (arith, number_positive x))
 
-  pub written-lies : (x : Writing) (n : ℕ) (t' a' : List ℕ) → outcome_by x t' a' ≡ applied current t r a → x ≡ Written n → Lies n a'
+  pub written-lies : (x : Writing) (n : ℕ) (t' a' : List ℕ) → outcome_by x t' a' ≡ applied current t r a → x ≡ Ok n → Lies n a'
   written-lies x n t' a' e w = by_verdict (apply_verdict current t r (length a)) refl n t' a' (rw w at e)
 
 -- so its rows have room in the text
@@ -63,11 +60,11 @@ rows_fit l k = omega (arith, l.most, l.whole, k, room_of most_cells)
 -- ---- what is told
 
 module _ (t r a t' a' : List ℕ) (out out' : List ℕ) (at end : ℕ) (x : Writing) (e : outcome_by x t' a' ≡ applied current t r a) where
-  pub served-ok : (n : ℕ) → x ≡ Written n → Said out at (answer_text (answer_of current (take n a'))) out' end
+  pub served-ok : (n : ℕ) → x ≡ Ok n → Said out at (answer_text (answer_of current (take n a'))) out' end
       → Served t r a out at t' a' out' (record { end = end; stops = false })
   unfolding said_of stops_at
   served-ok n w s =
-      let o : outcome_by (Written n) t' a' ≡ applied current t r a = rw w at e in
+      let o : outcome_by (Ok n) t' a' ≡ applied current t r a = rw w at e in
       record {
         table = ap (λ (y : Outcome). y.table) o;
         answer = ap (λ (y : Outcome). y.answer) o;
@@ -75,11 +72,11 @@ module _ (t r a t' a' : List ℕ) (out out' : List ℕ) (at end : ℕ) (x : Writ
         stop = rw (← o);
       }
 
-  pub served-no : (y : Refusal) (number : ℕ) (stops : Bool) → x ≡ Unwritten y → number ≡ number_of y → stops ≡ stops_at number
+  pub served-no : (y : Refusal) (number : ℕ) (stops : Bool) → x ≡ Err y → number ≡ number_of y → stops ≡ stops_at number
       → Said out at (no_text number) out' end → Served t r a out at t' a' out' (record { end = end; stops = stops })
   unfolding said_of
   served-no y number stops w k p s =
-      let o : outcome_by (Unwritten y) t' a' ≡ applied current t r a = rw w at e in
+      let o : outcome_by (Err y) t' a' ≡ applied current t r a = rw w at e in
       let z : eqb (number_of y) 0 ≡ false = ne_eqb (number_of y) 0 (λ (h : number_of y ≡ 0). omega (arith, number_positive y)) in
       record {
         table = ap (λ (y : Outcome). y.table) o;

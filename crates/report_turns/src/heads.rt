@@ -12,7 +12,6 @@ ghost use Rattle.report_turns.specs.Turns.{Program, waiting, stopping, heads_the
 use crate::Took;
 use report_lines::frame::cells;
 use report_lines::text::put_no;
-use rules::Writing;
 use rules::layout::{CELL, HEAD, HEADER};
 use table_build::build;
 
@@ -81,7 +80,7 @@ fn build_table(heads: &[u8], cells: usize, table: &mut [u8], out: &mut [u8], at:
     requires room_for_text { at + most_text ≤ length out.old }
     ensures { (a : List ℕ) → answer_room most_cells ≤ length a → Stepped (opened cells (program_in 0 table.old a) (built heads.now (take (table_size cells) table.old))) table.old a out.old at result table.new a out.new }
 {
-    if let Writing::Unwritten(refusal) = build(heads, &mut table[..HEADER + CELL * cells]) {
+    if let Err(refusal) = build(heads, &mut table[..HEADER + CELL * cells]) {
         return refuse(refusal.number(), out, at);
     }
     Took {

@@ -7,7 +7,6 @@ ghost use Rattle.rules.specs.Layout.{most_cells};
 
 use engine::apply::apply;
 use report_lines::text::{put_answer, put_no};
-use rules::Writing;
 
 // Where the text ends, and whether the program stops here.
 #[derive(Drop)]
@@ -29,11 +28,11 @@ pub fn serve(table: &mut [u8], req: &[u8], answer: &mut [u8], out: &mut [u8], at
     ensures end_bound { result.end ≤ at + most_text }
 {
     match apply(table, req, answer) {
-        Writing::Written(length) => {
+        Ok(length) => {
             let end = put_answer(out, at, &answer[..length]);
             Turn { end, stops: false }
         }
-        Writing::Unwritten(refusal) => {
+        Err(refusal) => {
             let number = refusal.number();
             let end = put_no(out, at, number);
             Turn {

@@ -1,8 +1,7 @@
 -- What the functions of this crate answer, in the words of the judge of requests: what was met in a response is what is seen in a message that says no more.
-use Rattle.std.specs.Prelude.{◌≡◌, Bool, true, false, cond, ◌&&◌, ◌||◌, List, ℕ, ◌/◌, ◌%◌, ◌≤◌, eqb, ltb, length, take, drop}
+use Rattle.std.specs.Prelude.{◌≡◌, Bool, true, false, cond, ◌&&◌, ◌||◌, List, ℕ, ◌/◌, ◌%◌, ◌≤◌, eqb, ltb, length, take, drop, Err}
 use Rattle.octets.specs.Runs.{gets}
 use Rattle.octets.specs.Numbers.{be}
-use Rattle.rules.specs.declared.Verdict.TheVariants.{Refused}
 use Rattle.aper.specs.Elements.{reject, criticalities}
 use Rattle.aper.specs.Readers.{ElementAt}
 use Rattle.aper.specs.declared.Step.TheVariants.{One}
@@ -101,4 +100,4 @@ PlainOver m l Unsaid = Unit {0}
 
 abbrev pub JudgedTo : Message → List ℕ → Judged → Type 0
 JudgedTo m b (Fine start s) = FitMessage m b start (seen_of s)
-JudgedTo m b (Unfit x) = message_verdict m b ≡ Refused x
+JudgedTo m b (Unfit x) = message_verdict m b ≡ Err x

@@ -1,4 +1,5 @@
 -- The answer of what a response says: which list lies in its bytes, whether its cells ascend, and what is written for it, by the two tests.
+use Rattle.std.specs.Prelude.{Ok, Err}
 use mathlib.Core.Path.{◌≡◌, sym}
 use mathlib.Core.Bool.{true, false}
 use mathlib.Core.List.{List, [], ◌∷◌, flat_map}
@@ -14,7 +15,6 @@ use Rattle.rules.specs.Reply.{Row, identities}
 use Rattle.rules.specs.Answer.{row_bytes, answer_head, answer_bytes}
 use Rattle.rules.specs.Applied.{fill, filled_by}
 use Rattle.rules.specs.declared.Refusal.TheVariants.{AnswerWrong, ShortBuffer}
-use Rattle.rules.specs.declared.Writing.TheVariants.{Written, Unwritten}
 use Rattle.rules.proofs.AnswerCodec.{length-answer_head, length-answer_bytes}
 use Rattle.formats.specs.Format.{Found, nothing, found}
 use Rattle.aper.specs.Elements.{Element}
@@ -48,18 +48,18 @@ module _ (kind : ℕ) (rows : List Row) (buffer : List ℕ) where
   abbrev room : ℕ
   room = answer_size current + row_size current * length rows
 
-  pub unordered_put : ascending (identities rows) ≡ false → filled_by (Unwritten AnswerWrong) buffer ≡ answer_left kind rows buffer
+  pub unordered_put : ascending (identities rows) ≡ false → filled_by (Err AnswerWrong) buffer ≡ answer_left kind rows buffer
   unfolding answer_left fill
   unordered_put t = rw t
 
   module _ (order : ascending (identities rows) ≡ true) where
-    pub short_put : length buffer < room → filled_by (Unwritten ShortBuffer) buffer ≡ answer_left kind rows buffer
+    pub short_put : length buffer < room → filled_by (Err ShortBuffer) buffer ≡ answer_left kind rows buffer
     unfolding answer_left fill
     short_put h = rw (order, lt-leb room (length buffer) h)
 
     pub answer_put : room ≤ length buffer → {k n size : ℕ} {a b : List ℕ} → k ≡ kind → n ≡ length rows → size ≡ answer_size current + row_size current * n
         → a ≡ sets buffer 0 (answer_head current k 0 0 n) → b ≡ sets a (answer_size current) (flat_map (row_bytes current) rows)
-        → filled_by (Written size) b ≡ answer_left kind rows buffer
+        → filled_by (Ok size) b ≡ answer_left kind rows buffer
     unfolding answer_left fill
     answer_put h {k} {n} {size} {a} {b} same many long p₁ p₂ =
         rw (order, le-leb room (length buffer) h, stored, length-answer_bytes current (unnamed kind rows), long, many)

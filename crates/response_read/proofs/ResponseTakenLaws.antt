@@ -1,4 +1,5 @@
 -- What reading a response leaves, by its verdict: the message's own tests come first, and of a fit one the answer decides.
+use Rattle.std.specs.Prelude.{Ok, Err}
 use mathlib.Core.Path.{◌≡◌, sym, ap, ap₂, ◌∙◌}
 use mathlib.Core.List.{List}
 use Prim.Native.Nat.{ℕ, ◌-◌}
@@ -6,12 +7,9 @@ use lib.ListN.{length, take, drop}
 use Rattle.octets.specs.Runs.{Bytes}
 use Rattle.rules.specs.Layout.{current}
 use Rattle.rules.specs.Answer.{answer_bytes}
-use Rattle.rules.specs.Refusals.{first_of}
+use Rattle.rules.specs.Refusals.{first_of, Verdict, Writing}
 use Rattle.rules.specs.Applied.{fill, filled_by}
 use Rattle.rules.specs.declared.Refusal.{Refusal}
-use Rattle.rules.specs.declared.Verdict.{Verdict}
-use Rattle.rules.specs.declared.Verdict.TheVariants.{Accepted, Refused}
-use Rattle.rules.specs.declared.Writing.{Writing}
 use Rattle.wire.specs.MessageRefusals.{message_verdict}
 use Rattle.wire.specs.MessageSaid.{Said, said_in}
 use Rattle.wire.specs.MessageOutcome.{refused, taken_by}
@@ -30,7 +28,7 @@ use Rattle.response_read.proofs.MeantLaws.{meant-left}
 
 module _ (m : Message) (b : List ℕ) (start : ℕ) (s : Seen) (fit : FitMessage m b start s) where
   module _ (before : List ℕ) (w : Writing) (buffer : List ℕ) (put : filled_by w buffer ≡ answer_left (kind_answered m) (account_by m (lent m b start s fit) s).says.cells before) where
-    lent-taken : taken_by (taking w s.transaction) buffer ≡ left_by_lem m Accepted (account_by m (lent m b start s fit) s).says before
+    lent-taken : taken_by (taking w s.transaction) buffer ≡ left_by_lem m (Ok tt) (account_by m (lent m b start s fit) s).says before
     unfolding answer_left account_by
     lent-taken =
         let rows = (account_by m (lent m b start s fit) s).says.cells in
@@ -39,7 +37,7 @@ module _ (m : Message) (b : List ℕ) (start : ℕ) (s : Seen) (fit : FitMessage
     fit-left : taken_by (taking w s.transaction) buffer ≡ left_by_lem m (message_verdict m b) (said_in m b) before
     fit-left = lent-taken ∙ ap₂ (λ (v : Verdict) (c : Said). left_by_lem m v c before) (sym fit.accepted) (said-lent m b start s fit)
 
-refused-left : (m : Message) (b before : List ℕ) (x : Refusal) → message_verdict m b ≡ Refused x → refused x before ≡ left_by_lem m (message_verdict m b) (said_in m b) before
+refused-left : (m : Message) (b before : List ℕ) (x : Refusal) → message_verdict m b ≡ Err x → refused x before ≡ left_by_lem m (message_verdict m b) (said_in m b) before
 unfolding fill
 refused-left m b before x e = rw e
 
@@ -49,7 +47,7 @@ module _ (m : Message) (b : List ℕ) (bytes : Bytes b) (meant : m ≡ meant_by 
   left_as : (before : List ℕ) → left_by_lem m (message_verdict m b) (said_in m b) before ≡ response_read b before
   left_as before = ap (λ (n : Message). left_by_lem n (message_verdict n b) (said_in n b) before) meant ∙ meant-left b before bytes
 
-  pub not_taken : (before : List ℕ) (x : Refusal) → message_verdict m b ≡ Refused x → refused x before ≡ response_read b before
+  pub not_taken : (before : List ℕ) (x : Refusal) → message_verdict m b ≡ Err x → refused x before ≡ response_read b before
   not_taken before x e = refused-left m b before x e ∙ left_as before
 
   pub fit-taken : (start : ℕ) (s : Seen) → FitMessage m b start s → (before : List ℕ) (w : Writing) (buffer : List ℕ)

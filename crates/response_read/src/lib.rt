@@ -19,7 +19,7 @@ use octets::get16;
 use response_judge::{Judged, Met, judge};
 use rules::kind::{CANCEL_OR_KILL, WRITE_REPLACE};
 use rules::layout::{ANSWER, ROW};
-use rules::{Refusal, Writing};
+use rules::Refusal;
 use wire::form::WRITE_REPLACE_RESPONSE;
 use wire::{Message, Taking};
 use wire_cells::{cell_at, cell_count};
@@ -58,13 +58,13 @@ fn put_rows(m: Message, answer: &mut [u8], cells: &[u8])
 }
 
 // 17, then 8, or the answer at the start of the buffer; bytes behind it stay.
-fn put_answer(m: Message, elements: &[u8], met: Met, answer: &mut [u8]) -> Writing
+fn put_answer(m: Message, elements: &[u8], met: Met, answer: &mut [u8]) -> Result<usize, Refusal>
     requires lies { Lies m elements.now (seen_of met) }
     requires lacks_value { met.lacks ≡ false }
     ensures { filled_by result answer.new ≡ answer_left (kind_answered m) (account_by m elements.now (seen_of met)).says.cells answer.old }
 {
     if !met.ascends {
-        return Writing::Unwritten(Refusal::AnswerWrong);
+        return Err(Refusal::AnswerWrong);
     }
     let start = met.start;
     let end = met.end;
@@ -72,11 +72,11 @@ fn put_answer(m: Message, elements: &[u8], met: Met, answer: &mut [u8]) -> Writi
     let n = cell_count(m, cells);
     let size = length_with(n);
     if answer.len() < size {
-        return Writing::Unwritten(Refusal::ShortBuffer);
+        return Err(Refusal::ShortBuffer);
     }
     put_head(answer, kind_answered(m), 0, 0, n as u16);
     put_rows(m, answer, cells);
-    Writing::Written(size)
+    Ok(size)
 }
 
 // ---- all of it
@@ -101,8 +101,8 @@ pub fn read_response(message: &[u8], answer: &mut [u8]) -> Taking
     match judge(m, message) {
         Judged::Unfit(refusal) => Taking::Untaken(refusal),
         Judged::Fine(start, met) => match put_answer(m, &message[start..], met, answer) {
-            Writing::Unwritten(refusal) => Taking::Untaken(refusal),
-            Writing::Written(length) => Taking::Taken(met.transaction as u16, length),
+            Err(refusal) => Taking::Untaken(refusal),
+            Ok(length) => Taking::Taken(met.transaction as u16, length),
         },
     }
 }

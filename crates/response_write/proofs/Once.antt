@@ -1,10 +1,10 @@
 -- One outcome only: what the public function of this crate answers and leaves, its contract settles.
 -- The promise is an equation between all of it and a definition; the answer's number and length settle its case.
+use Rattle.rules.specs.Refusals.{Writing}
 use mathlib.Core.List.{List}
 use Prim.Native.Nat.{ℕ}
 use Rattle.octets.specs.Settled.{Settles}
 use Rattle.octets.proofs.Once.{one-outcome, both_once}
-use Rattle.rules.specs.declared.Writing.{Writing}
 use Rattle.rules.proofs.OnceLaws.{filled_injective}
 use Rattle.response_write.proofs.write_response.Reads as write_response_lem
 

@@ -1,4 +1,5 @@
 -- What is written for an answer, by the two tests: its response's bytes are the parts, and as many as were counted.
+use Rattle.std.specs.Prelude.{Ok, Err}
 use mathlib.Core.Path.{◌≡◌, ap, ◌∙◌}
 use mathlib.Core.Bool.{Bool, true, false}
 use mathlib.Core.List.{List, ◌++◌, append_assoc, append-nil}
@@ -14,7 +15,6 @@ use Rattle.rules.specs.Record.{cancel_or_kill, kind_of}
 use Rattle.rules.specs.Answer.{answer_of, row_count, legal_row}
 use Rattle.rules.specs.Applied.{fill, filled_by}
 use Rattle.rules.specs.declared.Refusal.TheVariants.{AnswerWrong, ShortBuffer}
-use Rattle.rules.specs.declared.Writing.TheVariants.{Written, Unwritten}
 use Rattle.rules.proofs.TestLaws.{both}
 use Rattle.rules.proofs.AllLaws.{every_all, all_imply}
 use Rattle.answer.specs.Rows.{rows_in}
@@ -61,19 +61,19 @@ module _ (counted : Bool) (t : ℕ) (buffer : List ℕ) where
   unfolding bare_bytes
   length-bare = rw (length-append, length-opening, short-size front_size (omega arith))
 
-  pub short-bare : length buffer < bare_size → filled_by (Unwritten ShortBuffer) buffer ≡ bare_written (response_by counted) t buffer
+  pub short-bare : length buffer < bare_size → filled_by (Err ShortBuffer) buffer ≡ bare_written (response_by counted) t buffer
   unfolding bare_written fill
   short-bare h = rw (length-bare, lt-leb bare_size (length buffer) h)
 
   pub all_bare : bare_size ≤ length buffer → {after : List ℕ} → after ≡ sets buffer 0 (bare_bytes (response_by counted) t)
-      → filled_by (Written bare_size) after ≡ bare_written (response_by counted) t buffer
+      → filled_by (Ok bare_size) after ≡ bare_written (response_by counted) t buffer
   unfolding bare_written fill
   all_bare h p = rw (length-bare, le-leb bare_size (length buffer) h, p, length-bare)
 
 -- ---- of an answer
 
 module _ (b : List ℕ) where
-  pub not_written : (t : ℕ) (buffer : List ℕ) → answerable b ≡ false → filled_by (Unwritten AnswerWrong) buffer ≡ response_written b t buffer
+  pub not_written : (t : ℕ) (buffer : List ℕ) → answerable b ≡ false → filled_by (Err AnswerWrong) buffer ≡ response_written b t buffer
   unfolding response_written response_verdict fill
   not_written t buffer wrong = rw wrong
 
@@ -117,7 +117,7 @@ module _ (b : List ℕ) where
         bare-written none buffer = rw (yes, the_bytes, none, bare_parts (eqb kind cancel_or_kill) b t byte)
 
         module _ (buffer : List ℕ) (size : ℕ) (s : size ≡ response_size message many) where
-          pub short-written : length buffer < size → filled_by (Unwritten ShortBuffer) buffer ≡ response_written b t buffer
+          pub short-written : length buffer < size → filled_by (Err ShortBuffer) buffer ≡ response_written b t buffer
           unfolding response_written response_verdict fill
           short-written h = rw (yes, lt-leb (length (response_of (answer_of current b) t)) (length buffer) (rw (the_size, ← s) h))
 
@@ -125,7 +125,7 @@ module _ (b : List ℕ) where
               → front ≡ sets buffer 0 (opening (frame_id message) value ++ front_bytes many t)
               → at ≡ opening_size value + front_size
               → after ≡ sets front at (list_bytes message (rows_in b many))
-              → filled_by (Written size) after ≡ response_written b t buffer
+              → filled_by (Ok size) after ≡ response_written b t buffer
           unfolding response_written response_verdict fill
           all_written h {front} {after} {at} {value} v p e q =
               let long : at ≡ 0 + length (opening (frame_id message) value ++ front_bytes many t) = rw (length-append, length-opening) (omega arith) in

@@ -19,7 +19,7 @@ use answer::{Row, kind, row_at, rows};
 use answer_judge::can_be_answered;
 use octets::{put8, put16, put32, put64};
 use rules::kind::CANCEL_OR_KILL;
-use rules::{Refusal, Writing};
+use rules::Refusal;
 use wire::form::{
     CANCEL_RESPONSE, CANCELLED, CANCELLED_ITEM, COMPLETED, COMPLETED_ITEM, COUNT, FRONT,
     IDENTIFIED, IDENTITY_AT, IDENTITY_END, LISTED_HEAD, NUMBER_AT, PADDING, WRITE_REPLACE_RESPONSE,
@@ -203,22 +203,22 @@ fn put_list(message: &mut [u8], at: usize, counted: bool, answer: &[u8], many: u
 // ---- all of it
 
 // "A list with no rows is left out.": a transaction identifier alone.
-fn bare(message: &mut [u8], counted: bool, transaction: u8) -> Writing
+fn bare(message: &mut [u8], counted: bool, transaction: u8) -> Result<usize, Refusal>
     ensures { filled_by result message.new ≡ bare_written (response_by counted) transaction message.old }
 {
     if message.len() < BARE {
-        return Writing::Unwritten(Refusal::ShortBuffer);
+        return Err(Refusal::ShortBuffer);
     }
     put_front(message, counted, FRONT, 0, transaction);
-    Writing::Written(BARE)
+    Ok(BARE)
 }
 
 // One without rows is written before anything about the list is computed: the compiler then saves no registers on that way.
-pub fn write_response(answer: &[u8], transaction: u8, message: &mut [u8]) -> Writing
+pub fn write_response(answer: &[u8], transaction: u8, message: &mut [u8]) -> Result<usize, Refusal>
     ensures { filled_by result message.new ≡ response_written answer.now transaction message.old }
 {
     if !can_be_answered(answer) {
-        return Writing::Unwritten(Refusal::AnswerWrong);
+        return Err(Refusal::AnswerWrong);
     }
     let many = rows(answer);
     let counted = kind(answer) == CANCEL_OR_KILL;
@@ -228,9 +228,9 @@ pub fn write_response(answer: &[u8], transaction: u8, message: &mut [u8]) -> Wri
     let value = FRONT + list_size(counted, many);
     let size = enclosed_size(value);
     if message.len() < size {
-        return Writing::Unwritten(Refusal::ShortBuffer);
+        return Err(Refusal::ShortBuffer);
     }
     let at = put_front(message, counted, value, many, transaction);
     put_list(message, at, counted, answer, many);
-    Writing::Written(size)
+    Ok(size)
 }

@@ -1,4 +1,5 @@
 -- A message that is read as the response to rows is taken for that response, passes 13 to 16, and leaves the answer with those rows.
+use Rattle.std.specs.Prelude.{Ok}
 use mathlib.Core.Path.{◌≡◌, refl, sym, ap, ap₂, ◌∙◌}
 use mathlib.Core.Bool.{true}
 use mathlib.Core.List.{List, []}
@@ -7,10 +8,8 @@ use lib.ListN.{length}
 use Rattle.rules.specs.Layout.{current}
 use Rattle.rules.specs.Reply.{Row}
 use Rattle.rules.specs.Answer.{answer_bytes}
-use Rattle.rules.specs.Refusals.{◌then◌, first_of}
+use Rattle.rules.specs.Refusals.{◌then◌, first_of, Verdict}
 use Rattle.rules.specs.Applied.{fill}
-use Rattle.rules.specs.declared.Verdict.{Verdict}
-use Rattle.rules.specs.declared.Verdict.TheVariants.{Accepted}
 use Rattle.rules.proofs.AllLaws.{All}
 use Rattle.rules.proofs.VerdictLaws.{first_append}
 use Rattle.formats.specs.Format.{found, after, all_of}
@@ -59,7 +58,7 @@ module _ {m : Message} (a : Answers m) (b : List ℕ) (t : ℕ) (rows : List Row
   unfolding response_for
   framed = framed_answers a b (response_for m t rows) refl refl (frame-said m b (response_for m t rows) read)
 
-  passed : message_verdict m b ≡ Accepted
+  passed : message_verdict m b ≡ Ok tt
   unfolding message_verdict well_encoded message_elements response_for
   passed = rw (framed.1, read, none-rejecting m t rows, all_complete m t a rows)
 

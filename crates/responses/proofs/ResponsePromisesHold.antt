@@ -11,9 +11,8 @@ use Rattle.rules.specs.Layout.{current}
 use Rattle.rules.specs.Record.{kind_of}
 use Rattle.rules.specs.Reply.{Row, identities}
 use Rattle.rules.specs.Answer.{Answer, answer_of, answer_bytes}
-use Rattle.rules.specs.Refusals.{first_of}
+use Rattle.rules.specs.Refusals.{first_of, Verdict}
 use Rattle.rules.specs.Applied.{fill}
-use Rattle.rules.specs.declared.Verdict.{Verdict}
 use Rattle.rules.proofs.VerdictLaws.{all_held}
 use Rattle.rules.proofs.VerdictsHold.{first-exact}
 use Rattle.answer_judge.specs.Answerable.{answerable}

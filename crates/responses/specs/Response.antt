@@ -5,10 +5,9 @@ use Rattle.rules.specs.Identity.{plmn_of, part_of}
 use Rattle.rules.specs.Record.{Kind, a_write_replace, a_cancel, a_restart, a_failure, a_second, unknown_kind, kind_of}
 use Rattle.rules.specs.Reply.{Row}
 use Rattle.rules.specs.Answer.{Answer, answer_of}
-use Rattle.rules.specs.Refusals.{Test, test, first_of, fits_in}
+use Rattle.rules.specs.Refusals.{Test, test, first_of, fits_in, Verdict}
 use Rattle.rules.specs.Applied.{Filled, fill}
 use Rattle.rules.specs.declared.Refusal.TheVariants.{AnswerWrong, ShortBuffer}
-use Rattle.rules.specs.declared.Verdict.{Verdict}
 use Rattle.answer_judge.specs.Answerable.{answerable}
 use Rattle.aper.specs.Elements.{Element, reject}
 use Rattle.wire.specs.Frame.{Frame}

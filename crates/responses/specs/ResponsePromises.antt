@@ -1,5 +1,5 @@
 -- What is promised of responses and of what writing and reading them leaves, whatever code does it.
-use Rattle.std.specs.Prelude.{◌≡◌, true, ◌&&◌, ◌||◌, List, [], ℕ, ◌<◌, eqb, length}
+use Rattle.std.specs.Prelude.{◌≡◌, true, ◌&&◌, ◌||◌, List, [], ℕ, ◌<◌, eqb, length, Ok, Err}
 use Rattle.octets.specs.Runs.{Bytes}
 use Rattle.rules.specs.Layout.{current}
 use Rattle.rules.specs.Record.{kind_of}
@@ -7,7 +7,6 @@ use Rattle.rules.specs.Answer.{Answer, answer_of, answer_bytes}
 use Rattle.rules.specs.Refusals.{first_of, Exact}
 use Rattle.rules.specs.Applied.{fill}
 use Rattle.rules.specs.declared.Refusal.{Refusal}
-use Rattle.rules.specs.declared.Verdict.TheVariants.{Accepted, Refused}
 use Rattle.answer_judge.specs.Answerable.{answerable}
 use Rattle.formats.specs.Format.{found}
 use Rattle.wire.specs.Frame.{Frame, successful_outcome, write_replace_warning, pws_cancel, outer}
@@ -48,7 +47,7 @@ pub record Whole (b : List ℕ) (t : ℕ) : Type 0 where
       ≡ with_transaction (fill (first_of (row_tests (answer_read b).reply.rows (length buffer))) given buffer) (transaction_by (first_of (row_tests (answer_read b).reply.rows (length buffer))) t)
 
 abbrev pub OnceMore : Type 0
-OnceMore = (b : List ℕ) (room t : ℕ) → Bytes b → t < 256 → read_verdict b room ≡ Accepted → Whole b t
+OnceMore = (b : List ℕ) (room t : ℕ) → Bytes b → t < 256 → read_verdict b room ≡ Ok tt → Whole b t
 
 -- ---- what is skipped changes nothing
 
@@ -68,7 +67,7 @@ TheTwo =
 
 pub record Refusing : Type 0 where
   pub write-exact : (b : List ℕ) (t room : ℕ) → Exact (response_verdict b t room) (response_tests b t room)
-  pub write-leaves : (b : List ℕ) (t : ℕ) (buffer : List ℕ) (x : Refusal) → response_verdict b t (length buffer) ≡ Refused x
-      → response_written b t buffer ≡ fill (Refused x) [] buffer
+  pub write-leaves : (b : List ℕ) (t : ℕ) (buffer : List ℕ) (x : Refusal) → response_verdict b t (length buffer) ≡ Err x
+      → response_written b t buffer ≡ fill (Err x) [] buffer
   pub read-exact : (b : List ℕ) (room : ℕ) → Exact (read_verdict b room) (read_tests b room)
-  pub read-leaves : (b buffer : List ℕ) (x : Refusal) → read_verdict b (length buffer) ≡ Refused x → response_read b buffer ≡ refused x buffer
+  pub read-leaves : (b buffer : List ℕ) (x : Refusal) → read_verdict b (length buffer) ≡ Err x → response_read b buffer ≡ refused x buffer

@@ -5,10 +5,9 @@ use Rattle.rules.specs.Layout.{current, answer_size, row_size}
 use Rattle.rules.specs.Record.{write_replace, cancel_or_kill}
 use Rattle.rules.specs.Reply.{Row, identities}
 use Rattle.rules.specs.Answer.{Answer, answer_bytes}
-use Rattle.rules.specs.Refusals.{Test, test, first_of, fits_in}
+use Rattle.rules.specs.Refusals.{Test, test, first_of, fits_in, Verdict}
 use Rattle.rules.specs.Applied.{fill}
 use Rattle.rules.specs.declared.Refusal.TheVariants.{AnswerWrong, ShortBuffer}
-use Rattle.rules.specs.declared.Verdict.{Verdict}
 use Rattle.wire.specs.MessageRefusals.{is_this, message_tests}
 use Rattle.wire.specs.MessageSaid.{said_in}
 use Rattle.wire.specs.MessageOutcome.{MessageOutcome, transaction_by, with_transaction}

@@ -1,5 +1,6 @@
 -- What a call that is accepted gives: a legal table, an accepted record whose fields fit, and room for its answer.
 -- By the verdicts that its own is joined of.
+use Rattle.std.specs.Prelude.{Ok}
 use mathlib.Core.Path.{◌≡◌, sym, ◌∙◌}
 use mathlib.Core.Bool.{true}
 use mathlib.Core.List.{List}
@@ -16,7 +17,6 @@ use Rattle.rules.specs.Refusals.{table_verdict, record_verdict, apply_verdict}
 use Rattle.rules.specs.Sound.{fits, fit_request}
 use Rattle.rules.specs.declared.Request.{Request}
 use Rattle.rules.specs.declared.Refusal.TheVariants.{ShortBuffer}
-use Rattle.rules.specs.declared.Verdict.TheVariants.{Accepted}
 use Rattle.rules.proofs.LayoutLaws.{record-size}
 use Rattle.rules.proofs.FitLaws.{Fit-fits}
 use Rattle.rules.proofs.VerdictLaws.{then_accepted, unless_accepted, apply_chain}
@@ -28,11 +28,11 @@ module _ (v : Version) where
   -- ---- what acceptance gives
 
   pub record AcceptedCall (t r : List ℕ) (room : ℕ) : Type 0 where
-    pub table : table_verdict v t ≡ Accepted
-    pub req : record_verdict v r ≡ Accepted
+    pub table : table_verdict v t ≡ Ok tt
+    pub req : record_verdict v r ≡ Ok tt
     pub enough : room_for v (request_of r).kind (cell_count t) ≤ room
 
-  pub call_accepted : (t r : List ℕ) (room : ℕ) → apply_verdict v t r room ≡ Accepted → AcceptedCall t r room
+  pub call_accepted : (t r : List ℕ) (room : ℕ) → apply_verdict v t r room ≡ Ok tt → AcceptedCall t r room
   call_accepted t r room e =
       let a = then_accepted (table_verdict v t) _ (sym (apply_chain v t r room) ∙ e) in
       let b = then_accepted (record_verdict v r) _ a.1 in
@@ -43,7 +43,7 @@ module _ (v : Version) where
       }
 
   -- acceptance depends on the record, the buffer's length and N alone: legal tables of one size are alike to it
-  pub acceptance_stays : (t u r : List ℕ) (room : ℕ) → table_verdict v t ≡ Accepted → table_verdict v u ≡ Accepted → cell_count t ≡ cell_count u
+  pub acceptance_stays : (t u r : List ℕ) (room : ℕ) → table_verdict v t ≡ Ok tt → table_verdict v u ≡ Ok tt → cell_count t ≡ cell_count u
       → apply_verdict v t r room ≡ apply_verdict v u r room
   acceptance_stays t u r room a b n = rw (apply_chain v t r room, apply_chain v u r room, a, b, n)
 

@@ -1,5 +1,6 @@
 -- What a record that is accepted gives, test by test; and that it asks for no more than its unit allows.
 -- A definition by `&&` is taken apart once, into a record of plain facts.
+use Rattle.std.specs.Prelude.{Ok}
 use mathlib.Core.Path.{◌≡◌}
 use mathlib.Core.Bool.{true, ◌&&◌}
 use mathlib.Core.List.{List}
@@ -12,7 +13,6 @@ use Rattle.octets.specs.Fields.{field_of}
 use Rattle.rules.specs.Layout.{current, Version, version1, version2, version_of, mark_field, record_fields, record_size, item_size, record_mark, most_items, longest_period}
 use Rattle.rules.specs.Record.{version_in, takes_version, longest_asked, request_of, items_of, item_count, zero_byte, record_marked, kind_allows, area_fits, cancels_nothing}
 use Rattle.rules.specs.Refusals.{record_tests, request_verdict, record_verdict}
-use Rattle.rules.specs.declared.Verdict.TheVariants.{Accepted}
 use Rattle.rules.proofs.TestLaws.{both}
 use Rattle.rules.proofs.LayoutLaws.{longest-most}
 use Rattle.rules.proofs.VerdictLaws.{all_held, accepted-request, allowed_longer}
@@ -25,9 +25,9 @@ pub record AcceptedRecord (v : Version) (r : List ℕ) : Type 0 where
   pub few : item_count r ≤ most_items
   pub size : length r ≡ record_size + item_size current * item_count r
   pub zero : zero_byte r ≡ 0
-  pub request : request_verdict (longest_asked r) (request_of r) (items_of r) ≡ Accepted
+  pub request : request_verdict (longest_asked r) (request_of r) (items_of r) ≡ Ok tt
 
-pub record-accepted : (v : Version) (r : List ℕ) → record_verdict v r ≡ Accepted → AcceptedRecord v r
+pub record-accepted : (v : Version) (r : List ℕ) → record_verdict v r ≡ Ok tt → AcceptedRecord v r
 unfolding record_verdict record_marked
 record-accepted v r e =
     let h = all_held (record_tests v r) e in
@@ -53,7 +53,7 @@ record-accepted v r e =
           });
     }
 
-pub accepted-record : (v : Version) (r : List ℕ) → AcceptedRecord v r → record_verdict v r ≡ Accepted
+pub accepted-record : (v : Version) (r : List ℕ) → AcceptedRecord v r → record_verdict v r ≡ Ok tt
 unfolding record_verdict request_verdict record_marked
 accepted-record v r a =
     rw (le-leb record_size (length r) a.long, eq-eqb _ _ a.mark, a.version, le-leb _ _ a.few, eq-eqb _ _ a.size, eq-eqb _ _ a.zero) a.request
@@ -66,5 +66,5 @@ asked version1 n e =
     rw one (omega arith)
 asked version2 n e = longest-most (version_of n)
 
-pub within-own : (v : Version) (r : List ℕ) → AcceptedRecord v r → request_verdict (longest_period v) (request_of r) (items_of r) ≡ Accepted
+pub within-own : (v : Version) (r : List ℕ) → AcceptedRecord v r → request_verdict (longest_period v) (request_of r) (items_of r) ≡ Ok tt
 within-own v r a = allowed_longer _ _ (request_of r) (items_of r) (asked v (version_in r) a.version) a.request

@@ -1,5 +1,6 @@
 -- What an accepted call is told is sound, so its answer is legal and reads back as that: the kind, the identifier, the serial number and every row.
 -- Each cell's rows fit and are legal because the cell is sound; that they ascend is the order of the cells.
+use Rattle.std.specs.Prelude.{Ok}
 use mathlib.Core.Path.{◌≡◌, ◌∙◌}
 use mathlib.Core.Bool.{true}
 use mathlib.Core.List.{List, ◌++◌, flat_map}
@@ -18,7 +19,6 @@ use Rattle.rules.specs.Answer.{answer_numbers, answer_of, answer_bytes, is_known
 use Rattle.rules.specs.Refusals.{request_verdict, apply_verdict}
 use Rattle.rules.specs.Applied.{answered, applied}
 use Rattle.rules.specs.Sound.{fit_request, sound_cell, sound_answer}
-use Rattle.rules.specs.declared.Verdict.TheVariants.{Accepted}
 use Rattle.rules.proofs.AllLaws.{none, every_all}
 use Rattle.rules.proofs.LayoutLaws.{answer-number-fits}
 use Rattle.rules.proofs.SoundPlaceLaws.{fits-at}
@@ -38,14 +38,14 @@ use Rattle.rules.proofs.RowsSoundLaws.{rows-sound}
 module _ (v : Version) where
   -- ---- the answer of an accepted call
 
-  module _ (t r a : List ℕ) (bt : Bytes t) (br : Bytes r) (e : apply_verdict v t r (length a) ≡ Accepted) where
+  module _ (t r a : List ℕ) (bt : Bytes t) (br : Bytes r) (e : apply_verdict v t r (length a) ≡ Ok tt) where
     call : AcceptedCall v t r (length a)
     call = call_accepted v t r (length a) e
 
     fit : fit_request (request_of r) ≡ true
     fit = record-fits v r br (record-accepted v r call.req)
 
-    allowed : request_verdict (longest_period v) (request_of r) (items_of r) ≡ Accepted
+    allowed : request_verdict (longest_period v) (request_of r) (items_of r) ≡ Ok tt
     allowed = within-own v r (record-accepted v r call.req)
 
     cells : SoundCells v (cells_of v t)

@@ -1,5 +1,6 @@
 -- An accepted request: the table stays legal and keeps its length, its cells are those that the rule gives, and the answer fits its buffer.
 -- The cells are decoded, stepped and encoded, and each of the three keeps them sound.
+use Rattle.std.specs.Prelude.{Ok}
 use mathlib.Core.Path.{◌≡◌, sym, ap, ◌∙◌}
 use mathlib.Core.Bool.{true}
 use mathlib.Core.List.{List, map, flat_map, map-map}
@@ -19,7 +20,6 @@ use Rattle.rules.specs.Applied.{step_cell, cell_after, answered, outcome, applie
 use Rattle.rules.specs.Reply.{reply_of}
 use Rattle.rules.specs.Sound.{fit_request, sound_cell, sound_cells}
 use Rattle.rules.specs.declared.Request.{Request}
-use Rattle.rules.specs.declared.Verdict.TheVariants.{Accepted}
 use Rattle.rules.proofs.TestLaws.{by_test}
 use Rattle.rules.proofs.AllLaws.{every_all, all_imply, map_all}
 use Rattle.rules.proofs.AcceptedRecordLaws.{record-accepted, within-own}
@@ -41,14 +41,14 @@ module _ (v : Version) where
       by_test (reaches q.area items (cell_of v c).head) (λ e. rw e)
       (λ e. rw (e, step_unreached q items (cell_of v c) e) (cell-back v c b n l))
 
-  module _ (t r a : List ℕ) (bt : Bytes t) (br : Bytes r) (e : apply_verdict v t r (length a) ≡ Accepted) where
+  module _ (t r a : List ℕ) (bt : Bytes t) (br : Bytes r) (e : apply_verdict v t r (length a) ≡ Ok tt) where
     call : AcceptedCall v t r (length a)
     call = call_accepted v t r (length a) e
 
     fit : fit_request (request_of r) ≡ true
     fit = record-fits v r br (record-accepted v r call.req)
 
-    allowed : request_verdict (longest_period v) (request_of r) (items_of r) ≡ Accepted
+    allowed : request_verdict (longest_period v) (request_of r) (items_of r) ≡ Ok tt
     allowed = within-own v r (record-accepted v r call.req)
 
     sound : sound_cells v (cells_of v t) ≡ true
@@ -72,7 +72,7 @@ module _ (v : Version) where
     pub applied-cells : cells_of v (applied v t r a).table ≡ map (step_cell (request_of r) (items_of r)) (cells_of v t)
     applied-cells = rw applied-table (table-again v _ stepped_sound)
 
-    pub applied-legal : table_verdict v (applied v t r a).table ≡ Accepted
+    pub applied-legal : table_verdict v (applied v t r a).table ≡ Ok tt
     applied-legal = rw applied-table (table-legal v _ stepped_sound)
 
     pub applied-bytes : Bytes (applied v t r a).table

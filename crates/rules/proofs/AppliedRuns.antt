@@ -1,5 +1,6 @@
 -- An accepted request, said of the table's bytes cell by cell: what a walk over the cells in place has to leave.
 -- The cells' bytes behind the header are the table's, and what is decoded of each is that of its own bytes.
+use Rattle.std.specs.Prelude.{Ok}
 use mathlib.Core.Path.{◌≡◌, refl, sym, ap, ap₂, ◌∙◌}
 use mathlib.Core.Bool.{true}
 use mathlib.Core.List.{List, [], ◌∷◌, ◌++◌, map, flat_map}
@@ -17,7 +18,6 @@ use Rattle.rules.specs.Refusals.{table_verdict, apply_verdict}
 use Rattle.rules.specs.Applied.{step_cell, cell_after, applied}
 use Rattle.rules.specs.Reply.{cell_rows}
 use Rattle.rules.specs.declared.Request.{Request}
-use Rattle.rules.specs.declared.Verdict.TheVariants.{Accepted}
 use Rattle.rules.proofs.MapLaws.{flat_map-map}
 use Rattle.rules.proofs.TestLaws.{by_test}
 use Rattle.rules.proofs.LegalTableLaws.{table-accepted}
@@ -27,7 +27,7 @@ use Rattle.rules.proofs.AppliedLaws.{applied-legal, applied-header, applied-runs
 
 module _ (v : Version) where
   -- a legal table is its header and its cells' bytes
-  pub table_of_runs : (t : List ℕ) → table_verdict v t ≡ Accepted → take header_size t ++ flat_map (λ c. c) (cell_runs v t) ≡ t
+  pub table_of_runs : (t : List ℕ) → table_verdict v t ≡ Ok tt → take header_size t ++ flat_map (λ c. c) (cell_runs v t) ≡ t
   table_of_runs t e =
       let l = table-accepted v t e in
       let n : length (drop header_size t) ≡ cell_size v * cell_count t = rw length-drop (omega (arith, l.size)) in
@@ -37,7 +37,7 @@ module _ (v : Version) where
   unfolding cells_of
   rows_of-runs q items t = flat_map-map (cell_rows q items) (cell_of v) (cell_runs v t)
 
-  module _ (t r a : List ℕ) (bt : Bytes t) (br : Bytes r) (e : apply_verdict v t r (length a) ≡ Accepted) where
+  module _ (t r a : List ℕ) (bt : Bytes t) (br : Bytes r) (e : apply_verdict v t r (length a) ≡ Ok tt) where
     pub applied_by_runs : (applied v t r a).table ≡ take header_size t ++ flat_map (cell_after v (request_of r) (items_of r)) (cell_runs v t)
     applied_by_runs =
         sym (table_of_runs (applied v t r a).table (applied-legal v t r a bt br e))

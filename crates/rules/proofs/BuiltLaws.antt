@@ -1,5 +1,6 @@
 -- What the builder accepts leaves a legal table at the start of its buffer, with the heads that it was given and no live place.
 -- Legal heads make sound cells, and sound cells encode to a legal table.
+use Rattle.std.specs.Prelude.{Ok}
 use mathlib.Core.Path.{◌≡◌}
 use mathlib.Core.Bool.{true}
 use mathlib.Core.List.{List, map}
@@ -13,7 +14,6 @@ use Rattle.rules.specs.Layout.{current, header_size, head_size, cell_size}
 use Rattle.rules.specs.Table.{cells_of, table_bytes}
 use Rattle.rules.specs.Refusals.{table_verdict, head_count, head_runs, legal_heads, build_tests, build_verdict}
 use Rattle.rules.specs.Applied.{fill, empty_cell, built}
-use Rattle.rules.specs.declared.Verdict.TheVariants.{Accepted}
 use borrow.Author.Tests.{leb-true}
 use Rattle.rules.proofs.VerdictLaws.{all_held}
 use Rattle.rules.proofs.OutcomeLaws.{built-accepted}
@@ -24,7 +24,7 @@ pub record AcceptedHeads (heads : List ℕ) (room : ℕ) : Type 0 where
   pub legal : legal_heads heads ≡ true
   pub enough : header_size + cell_size current * head_count heads ≤ room
 
-pub heads-accepted : (heads : List ℕ) (room : ℕ) → build_verdict heads room ≡ Accepted → AcceptedHeads heads room
+pub heads-accepted : (heads : List ℕ) (room : ℕ) → build_verdict heads room ≡ Ok tt → AcceptedHeads heads room
 unfolding build_verdict
 heads-accepted heads room e =
     let h = all_held (build_tests heads room) e in
@@ -47,7 +47,7 @@ module _ (heads buffer : List ℕ) (b : Bytes heads) (e : (built heads buffer).n
       rw (built-accepted heads buffer e)
       (take-sets_front buffer (table_bytes current (map empty_cell (head_runs heads))) (omega (arith, length-built heads, accepted.enough)))
 
-  pub built-legal : table_verdict current (take (built heads buffer).length (built heads buffer).buffer) ≡ Accepted
+  pub built-legal : table_verdict current (take (built heads buffer).length (built heads buffer).buffer) ≡ Ok tt
   built-legal = rw built-bytes (table-legal current _ (heads-sound heads b accepted.legal))
 
   pub built-cells : cells_of current (take (built heads buffer).length (built heads buffer).buffer) ≡ map empty_cell (head_runs heads)

@@ -1,5 +1,6 @@
 -- A converted table is legal and says the cells that its own version says.
 -- What is sound by any version is sound by the current rules, so the cells encode to a legal table of today.
+use Rattle.std.specs.Prelude.{Ok}
 use mathlib.Core.Path.{◌≡◌, ap, ◌∙◌}
 use mathlib.Core.Bool.{true}
 use mathlib.Core.List.{List}
@@ -13,7 +14,6 @@ use Rattle.rules.specs.Refusals.{table_verdict}
 use Rattle.rules.specs.Applied.{converted}
 use Rattle.rules.specs.Sound.{sound_head, sound_place, sound_cell, sound_cells}
 use Rattle.rules.specs.declared.Place.{Place}
-use Rattle.rules.specs.declared.Verdict.TheVariants.{Accepted}
 use Rattle.rules.proofs.TestLaws.{and-true}
 use Rattle.rules.proofs.AllLaws.{all_every, every_all, all_imply}
 use Rattle.rules.proofs.LayoutLaws.{version-back, longest-most}
@@ -60,7 +60,7 @@ module _ (v : Version) where
 
   -- ---- the converted table
 
-  module _ (t : List ℕ) (accepted : table_verdict v t ≡ Accepted) where
+  module _ (t : List ℕ) (accepted : table_verdict v t ≡ Ok tt) where
     -- a table that a version accepts says that version
     pub own-version : own_version t ≡ v
     own-version = ap version_of (table-accepted v t accepted).version ∙ version-back v
@@ -76,7 +76,7 @@ module _ (v : Version) where
       pub converted-cells : cells_of current (converted t) ≡ cells_of v t
       converted-cells = rw converted_by (table-again current (cells_of v t) sound)
 
-      pub converted-legal : table_verdict current (converted t) ≡ Accepted
+      pub converted-legal : table_verdict current (converted t) ≡ Ok tt
       converted-legal = rw converted_by (table-legal current (cells_of v t) sound)
 
       pub converted-count : cell_count (converted t) ≡ cell_count t

@@ -1,5 +1,6 @@
 -- What an accepted request does in a cell: its places stay sound, its rows are no more than document 01 has room for, and their numbers fit a row.
 -- By the request's kind, from the laws of each.
+use Rattle.std.specs.Prelude.{Ok}
 use mathlib.Core.Path.{◌≡◌, refl}
 use mathlib.Core.Bool.{Bool, true, cond, ◌&&◌}
 use mathlib.Core.List.{List, [], ◌∷◌, flat_map}
@@ -18,7 +19,6 @@ use Rattle.rules.specs.Answer.{rows_by, rows_per_cell}
 use Rattle.rules.specs.Refusals.{request_verdict}
 use Rattle.rules.specs.declared.Request.{Request}
 use Rattle.rules.specs.declared.Place.{Place}
-use Rattle.rules.specs.declared.Verdict.TheVariants.{Accepted}
 use Rattle.rules.proofs.ListsLaws.{every-flat_map, every-cond}
 use Rattle.rules.proofs.TestLaws.{cond_either}
 use Rattle.rules.proofs.KindAreaLaws.{kind_by}
@@ -63,7 +63,7 @@ in_cell_by P q ps begins stops empties drops ages rest =
 module _ (v : Version) where
   -- ---- an accepted request
 
-  module _ (q : Request) (items : List ℕ) (f : fit_request q ≡ true) (e : request_verdict (longest_period v) q items ≡ Accepted) (ps : List Place) (s : sound_places v ps ≡ true) where
+  module _ (q : Request) (items : List ℕ) (f : fit_request q ≡ true) (e : request_verdict (longest_period v) q items ≡ Ok tt) (ps : List Place) (s : sound_places v ps ≡ true) where
     pub in_cell-sound : sound_places v (in_cell q ps).places ≡ true
     in_cell-sound =
         in_cell_by (λ d. sound_places v d.places ≡ true) q ps

@@ -1,5 +1,6 @@
 -- What a table that is accepted gives, test by test, and sound cells likewise; and back.
 -- A definition by `&&` is taken apart once, into a record of plain facts.
+use Rattle.std.specs.Prelude.{Ok}
 use mathlib.Core.Path.{◌≡◌}
 use mathlib.Core.Bool.{true}
 use mathlib.Core.List.{List, map}
@@ -14,7 +15,6 @@ use Rattle.rules.specs.Layout.{Version, mark_field, version_field, places_in_hea
 use Rattle.rules.specs.Table.{Cell, legal_cell, cell_count, cell_runs, identity_at, table_marked, legal_table}
 use Rattle.rules.specs.Sound.{sound_cell, identity_of_cell, sound_cells}
 use Rattle.rules.specs.Refusals.{table_tests, table_verdict}
-use Rattle.rules.specs.declared.Verdict.TheVariants.{Accepted}
 use Rattle.rules.proofs.TestLaws.{both}
 use Rattle.rules.proofs.AllLaws.{All, all_every, every_all}
 use Rattle.rules.proofs.VerdictLaws.{all_held}
@@ -33,7 +33,7 @@ module _ (v : Version) where
     pub cells : every (legal_cell v) (cell_runs v t) ≡ true
     pub order : ascending (map (identity_at v) (cell_runs v t)) ≡ true
 
-  pub table-accepted : (t : List ℕ) → table_verdict v t ≡ Accepted → LegalTable t
+  pub table-accepted : (t : List ℕ) → table_verdict v t ≡ Ok tt → LegalTable t
   unfolding table_verdict table_marked legal_table
   table-accepted t e =
       let h = all_held (table_tests v t) e in
@@ -57,7 +57,7 @@ module _ (v : Version) where
         order = a.1;
       }
 
-  pub accepted-table : (t : List ℕ) → LegalTable t → table_verdict v t ≡ Accepted
+  pub accepted-table : (t : List ℕ) → LegalTable t → table_verdict v t ≡ Ok tt
   unfolding table_verdict table_marked legal_table
   accepted-table t l =
       let s = l.size in

@@ -1,5 +1,6 @@
 -- What is judged as a table of an older version is judged by the rules of the version that it says, which is version 1 today.
 -- By the cases of `is_older`: an older version's number is 1 today, and bytes that say another have neither mark.
+use Rattle.std.specs.Prelude.{Ok}
 use mathlib.Core.Path.{◌≡◌, refl, sym, ap, ◌∙◌}
 use mathlib.Core.Bool.{◌&&◌, false≢true, and-false}
 use mathlib.Core.List.{List}
@@ -11,7 +12,6 @@ use Rattle.octets.specs.Fields.{field_of}
 use Rattle.rules.specs.Layout.{version1, current, version_number, version_of, is_older, mark_field, version_field, header_fields, table_mark}
 use Rattle.rules.specs.Table.{own_version, table_marked, older_marked}
 use Rattle.rules.specs.Refusals.{older_tests, table_verdict, older_verdict}
-use Rattle.rules.specs.declared.Verdict.TheVariants.{Accepted}
 use Rattle.rules.proofs.TestLaws.{both, by_test}
 use Rattle.rules.proofs.VerdictLaws.{all_held}
 use Rattle.rules.proofs.LayoutLaws.{older-one, older-number}
@@ -27,9 +27,9 @@ older-verdict t =
 -- what is accepted is a legal table of its own version, an older one
 pub record OlderTable (t : List ℕ) : Type 0 where
   pub older : version_number (own_version t) < version_number current
-  pub legal : table_verdict (own_version t) t ≡ Accepted
+  pub legal : table_verdict (own_version t) t ≡ Ok tt
 
-pub older-table : (t : List ℕ) → older_verdict t ≡ Accepted → OlderTable t
+pub older-table : (t : List ℕ) → older_verdict t ≡ Ok tt → OlderTable t
 unfolding older_verdict older_marked table_verdict table_marked
 older-table t e =
     let n : ℕ = field_of header_fields version_field t in

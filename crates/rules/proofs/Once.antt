@@ -4,8 +4,8 @@ use Prim.Native.Nat.{ℕ}
 use Rattle.octets.specs.Settled.{SettlesResult}
 use Rattle.octets.proofs.Once.{one-outcome}
 use Rattle.rules.proofs.Refusal.number.Reads as refusal-number
-use Rattle.rules.proofs.Writing.number.Reads as writing_number_lem
-use Rattle.rules.proofs.Writing.length.Reads as writing_length_lem
+use Rattle.rules.proofs.writing_number.Reads as writing_number_lem
+use Rattle.rules.proofs.writing_length.Reads as writing_length_lem
 use Rattle.rules.proofs.Request.concurrent.Reads as concurrent
 use Rattle.rules.proofs.Request.cancels_all.Reads as cancels_all_lem
 use Rattle.rules.proofs.Request.notified.Reads as notified

@@ -1,5 +1,6 @@
 -- A number other than 0 means length 0 and every byte as it was; the number 0 means that every test was passed.
 -- By the cases of the verdict; no refusal has the number 0.
+use Rattle.std.specs.Prelude.{Ok, Err}
 use mathlib.Core.Path.{◌≡◌, refl}
 use mathlib.Core.List.{List}
 use Prim.Native.Nat.{ℕ, ◌<◌}
@@ -7,13 +8,11 @@ use native.Mathlib.Omega.{arith}
 use lib.ListN.{length}
 use Rattle.rules.specs.Layout.{Version, current}
 use Rattle.rules.specs.Record.{request_of, items_of}
-use Rattle.rules.specs.Refusals.{number_of, record_verdict, write_verdict, apply_verdict, build_verdict, convert_verdict}
+use Rattle.rules.specs.Refusals.{number_of, record_verdict, write_verdict, apply_verdict, build_verdict, convert_verdict, Verdict}
 use Rattle.rules.specs.Applied.{fill, built, conversion, written, no_request, reading, read_of, outcome, applied}
 use Rattle.rules.specs.declared.Request.{Request}
 use Rattle.rules.specs.declared.Refusal.{Refusal}
 use Rattle.rules.specs.declared.Refusal.TheVariants.{TableMark, TableWrong, RecordMark, RecordLength, RecordFields, RecordLimits, CancelsNothing, ShortBuffer, BadHeads, ListDamaged, TooManySegments, NoSuchSegment, BadEncoding, OtherMessage, UnknownElement, ElementsWrong, AnswerWrong}
-use Rattle.rules.specs.declared.Verdict.{Verdict}
-use Rattle.rules.specs.declared.Verdict.TheVariants.{Accepted, Refused}
 
 pub number_positive : (x : Refusal) → 0 < number_of x
 number_positive TableMark = omega arith
@@ -36,18 +35,18 @@ number_positive AnswerWrong = omega arith
 
 -- ---- a buffer that is filled
 
-pub fill-accepted : (v : Verdict) (bs buffer : List ℕ) → (fill v bs buffer).number ≡ 0 → v ≡ Accepted
+pub fill-accepted : (v : Verdict) (bs buffer : List ℕ) → (fill v bs buffer).number ≡ 0 → v ≡ Ok tt
 unfolding fill
-fill-accepted Accepted bs buffer e = refl
-fill-accepted (Refused x) bs buffer e = absurd (omega (arith, number_positive x))
+fill-accepted (Ok tt) bs buffer e = refl
+fill-accepted (Err x) bs buffer e = absurd (omega (arith, number_positive x))
 
 pub fill-refused : (v : Verdict) (bs buffer : List ℕ) → ((fill v bs buffer).number ≡ 0 → ⊥) → ((fill v bs buffer).length ≡ 0) × ((fill v bs buffer).buffer ≡ buffer)
 unfolding fill
-fill-refused Accepted bs buffer h = absurd (h refl)
-fill-refused (Refused x) bs buffer h = (refl, refl)
+fill-refused (Ok tt) bs buffer h = absurd (h refl)
+fill-refused (Err x) bs buffer h = (refl, refl)
 
 module _ (heads buffer : List ℕ) where
-  pub built-accepted : (built heads buffer).number ≡ 0 → build_verdict heads (length buffer) ≡ Accepted
+  pub built-accepted : (built heads buffer).number ≡ 0 → build_verdict heads (length buffer) ≡ Ok tt
   unfolding built
   built-accepted e = fill-accepted (build_verdict heads (length buffer)) _ buffer e
 
@@ -61,7 +60,7 @@ module _ (old buffer : List ℕ) where
   conversion-refused h = fill-refused (convert_verdict old (length buffer)) _ buffer h
 
 module _ (q : Request) (items buffer : List ℕ) where
-  pub written-accepted : (written q items buffer).number ≡ 0 → write_verdict q items (length buffer) ≡ Accepted
+  pub written-accepted : (written q items buffer).number ≡ 0 → write_verdict q items (length buffer) ≡ Ok tt
   unfolding written
   written-accepted e = fill-accepted (write_verdict q items (length buffer)) _ buffer e
 
@@ -71,18 +70,18 @@ module _ (q : Request) (items buffer : List ℕ) where
 
 -- ---- a record that is read
 
-reading-accepted : (v : Verdict) (r : List ℕ) → (reading v r).number ≡ 0 → v ≡ Accepted
+reading-accepted : (v : Verdict) (r : List ℕ) → (reading v r).number ≡ 0 → v ≡ Ok tt
 unfolding reading
-reading-accepted Accepted r e = refl
-reading-accepted (Refused x) r e = absurd (omega (arith, number_positive x))
+reading-accepted (Ok tt) r e = refl
+reading-accepted (Err x) r e = absurd (omega (arith, number_positive x))
 
 reading-refused : (v : Verdict) (r : List ℕ) → ((reading v r).number ≡ 0 → ⊥) → ((reading v r).request ≡ no_request) × ((reading v r).items ≡ 0)
 unfolding reading
-reading-refused Accepted r h = absurd (h refl)
-reading-refused (Refused x) r h = (refl, refl)
+reading-refused (Ok tt) r h = absurd (h refl)
+reading-refused (Err x) r h = (refl, refl)
 
 module _ (r : List ℕ) where
-  pub read-accepted : (read_of r).number ≡ 0 → record_verdict current r ≡ Accepted
+  pub read-accepted : (read_of r).number ≡ 0 → record_verdict current r ≡ Ok tt
   unfolding read_of
   read-accepted e = reading-accepted (record_verdict current r) r e
 
@@ -93,19 +92,19 @@ module _ (r : List ℕ) where
 -- ---- a request that is applied
 
 module _ (v : Version) (q : Request) (items t a : List ℕ) where
-  outcome-accepted : (d : Verdict) → (outcome v d q items t a).number ≡ 0 → d ≡ Accepted
+  outcome-accepted : (d : Verdict) → (outcome v d q items t a).number ≡ 0 → d ≡ Ok tt
   unfolding outcome
-  outcome-accepted Accepted e = refl
-  outcome-accepted (Refused x) e = absurd (omega (arith, number_positive x))
+  outcome-accepted (Ok tt) e = refl
+  outcome-accepted (Err x) e = absurd (omega (arith, number_positive x))
 
   outcome-refused : (d : Verdict) → ((outcome v d q items t a).number ≡ 0 → ⊥)
       → ((outcome v d q items t a).length ≡ 0) × ((outcome v d q items t a).table ≡ t) × ((outcome v d q items t a).answer ≡ a)
   unfolding outcome
-  outcome-refused Accepted h = absurd (h refl)
-  outcome-refused (Refused x) h = (refl, refl, refl)
+  outcome-refused (Ok tt) h = absurd (h refl)
+  outcome-refused (Err x) h = (refl, refl, refl)
 
 module _ (v : Version) (t r a : List ℕ) where
-  pub applied-accepted : (applied v t r a).number ≡ 0 → apply_verdict v t r (length a) ≡ Accepted
+  pub applied-accepted : (applied v t r a).number ≡ 0 → apply_verdict v t r (length a) ≡ Ok tt
   unfolding applied
   applied-accepted e = outcome-accepted v (request_of r) (items_of r) t a (apply_verdict v t r (length a)) e
 

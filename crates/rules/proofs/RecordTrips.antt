@@ -1,5 +1,6 @@
 -- Demand 2 on records: what the writer accepts reads back as that request, items included; what the reader accepts is written as the same bytes.
 -- By the inverses of RecordCodec; each test of the reader is one of the writer, or holds of every record written.
+use Rattle.std.specs.Prelude.{Ok}
 use mathlib.Core.Path.{◌≡◌, sym, ◌∙◌}
 use mathlib.Core.Bool.{Bool, true, not, ◌&&◌, ◌||◌}
 use mathlib.Core.List.{List, [], append-nil}
@@ -21,7 +22,6 @@ use Rattle.rules.specs.Sound.{fits, fit_request}
 use Rattle.rules.specs.declared.Seconds.{Seconds}
 use Rattle.rules.specs.declared.Request.{Request}
 use Rattle.rules.specs.declared.Refusal.TheVariants.{RecordLength, ShortBuffer}
-use Rattle.rules.specs.declared.Verdict.TheVariants.{Accepted}
 use Rattle.rules.proofs.TestLaws.{both}
 use Rattle.rules.proofs.AllLaws.{All, all_every, all_imply}
 use Rattle.rules.proofs.FitLaws.{fits-Fit}
@@ -51,10 +51,10 @@ items-fit longest q items e =
 
 pub record AcceptedWriting (q : Request) (items : List ℕ) (room : ℕ) : Type 0 where
   pub few : length items ≤ most_items
-  pub request : request_verdict (longest_period current) q items ≡ Accepted
+  pub request : request_verdict (longest_period current) q items ≡ Ok tt
   pub fits_in_lem : record_size + item_size current * length items ≤ room
 
-pub writing_accepted : (q : Request) (items : List ℕ) (room : ℕ) → write_verdict q items room ≡ Accepted → AcceptedWriting q items room
+pub writing_accepted : (q : Request) (items : List ℕ) (room : ℕ) → write_verdict q items room ≡ Ok tt → AcceptedWriting q items room
 writing_accepted q items room e =
     let n = then_accepted (refuse_unless (few_items (length items)) RecordLength) _ (sym (write_chain q items room) ∙ e) in
     let v = then_accepted (request_verdict (longest_period current) q items) _ n.1 in
@@ -64,7 +64,7 @@ writing_accepted q items room e =
       fits_in_lem = leb-true (record_size + item_size current * length items) room (unless_accepted _ ShortBuffer v.1);
     }
 
-pub accepted_writing : (q : Request) (items : List ℕ) (room : ℕ) → AcceptedWriting q items room → write_verdict q items room ≡ Accepted
+pub accepted_writing : (q : Request) (items : List ℕ) (room : ℕ) → AcceptedWriting q items room → write_verdict q items room ≡ Ok tt
 accepted_writing q items room a =
     rw (write_chain q items room, le-leb _ _ a.few, a.request, le-leb (record_size + item_size current * length items) room a.fits_in_lem)
 
@@ -86,7 +86,7 @@ module _ (q : Request) (items : List ℕ) (fit : fit_request q ≡ true) (few : 
   own-request : request_of (record_bytes q items) ≡ q
   own-request = rw append-nil at (request-again q items [] fit-head)
 
-  module _ (allowed : request_verdict (longest_period current) q items ≡ Accepted) where
+  module _ (allowed : request_verdict (longest_period current) q items ≡ Ok tt) where
     pub items-read : items_of (record_bytes q items) ≡ items
     items-read = rw append-nil at (items-again q items [] fit-head (items-fit (longest_period current) q items (request-accepted (longest_period current) q items allowed).limits))
 

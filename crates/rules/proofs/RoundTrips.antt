@@ -1,5 +1,6 @@
 -- Demand 2: write-then-read gives the request back, items included; read-then-write gives the same bytes, an older record as one of the current version.
 -- What stands at the start of the writer's buffer is the record, and record and request are each other's inverse.
+use Rattle.std.specs.Prelude.{Ok}
 use mathlib.Core.Path.{◌≡◌, ◌∙◌}
 use mathlib.Core.Bool.{true}
 use mathlib.Core.List.{List}
@@ -15,7 +16,6 @@ use Rattle.rules.specs.Refusals.{record_verdict, write_verdict}
 use Rattle.rules.specs.Applied.{fill, written, reading, read_of}
 use Rattle.rules.specs.Sound.{fit_request}
 use Rattle.rules.specs.declared.Request.{Request}
-use Rattle.rules.specs.declared.Verdict.TheVariants.{Accepted}
 use Rattle.rules.proofs.RecordCodec.{length_items_of}
 use Rattle.rules.proofs.RenewedLaws.{request-renewed, mark-renewed, version-renewed, zero-renewed, count-renewed, items-renewed, length-renewed, record-renewed}
 use Rattle.rules.proofs.RecordTrips.{writing_accepted, accepted_writing, length-record_bytes, record-written, items-read, request-read}
@@ -36,7 +36,7 @@ write_read q items buffer fit e =
     let n = length-record_bytes q items fit a.few in
     let f : take (length (record_bytes q items)) (sets buffer 0 (record_bytes q items)) ≡ record_bytes q items =
     take-sets_front buffer (record_bytes q items) (omega arith) in
-    let w : record_verdict current (record_bytes q items) ≡ Accepted =
+    let w : record_verdict current (record_bytes q items) ≡ Ok tt =
     accepted-record current (record_bytes q items) (record-written q items fit a.few a.request) in
     let r = request-read q items fit a.few a.request in
     record {
@@ -46,7 +46,7 @@ write_read q items buffer fit e =
     }
 
 -- renewed, a record is accepted still
-pub renewed-accepted : (r : List ℕ) → AcceptedRecord current r → record_verdict current (renewed r) ≡ Accepted
+pub renewed-accepted : (r : List ℕ) → AcceptedRecord current r → record_verdict current (renewed r) ≡ Ok tt
 renewed-accepted r a =
     let long = a.long in
     accepted-record current (renewed r)
@@ -68,6 +68,6 @@ read-write r buffer b e h =
     let v = read-accepted r e in
     let a = record-accepted current r v in
     let n : length (items_of r) ≡ item_count r = length_items_of r in
-    let w : write_verdict (request_of r) (items_of r) (length buffer) ≡ Accepted =
+    let w : write_verdict (request_of r) (items_of r) (length buffer) ≡ Ok tt =
     accepted_writing (request_of r) (items_of r) (length buffer) (record { few = rw n a.few; request = within-own current r a; fits_in_lem = rw n (omega arith) }) in
     rw (v, w, record-renewed r a.long b a.mark a.zero a.size, length-renewed r a.long)

@@ -1,5 +1,6 @@
 -- One request on one cell: its head stays, a cell that is not reached stays whole, a sound cell stays sound, and the room asked for is enough.
 -- By the truth of `reaches`, then by the law of the rule in a cell.
+use Rattle.std.specs.Prelude.{Ok}
 use mathlib.Core.Path.{◌≡◌, refl, ap}
 use mathlib.Core.Bool.{Bool, true, false, cond}
 use mathlib.Core.List.{List, [], ◌∷◌, map, flat_map}
@@ -18,7 +19,6 @@ use Rattle.rules.specs.Applied.{step_cell}
 use Rattle.rules.specs.Reply.{cell_rows, row_by}
 use Rattle.rules.specs.Sound.{fit_request, sound_head, sound_places, sound_cell, identity_of_cell, sound_cells}
 use Rattle.rules.specs.declared.Request.{Request}
-use Rattle.rules.specs.declared.Verdict.TheVariants.{Accepted}
 use Rattle.rules.proofs.TestLaws.{both, and-true, cond_either}
 use Rattle.rules.proofs.AllLaws.{all_imply, all_map}
 use Rattle.rules.proofs.LegalTableLaws.{sound-cells, cells-sound}
@@ -67,7 +67,7 @@ module _ (q : Request) (items : List ℕ) where
 
   -- ---- sound cells stay sound
 
-  module _ (v : Version) (fit : fit_request q ≡ true) (allowed : request_verdict (longest_period v) q items ≡ Accepted) where
+  module _ (v : Version) (fit : fit_request q ≡ true) (allowed : request_verdict (longest_period v) q items ≡ Ok tt) where
     step-sound : (c : Cell) → sound_cell v c ≡ true → sound_cell v (step_cell q items c) ≡ true
     unfolding step_cell sound_cell
     step-sound c s =

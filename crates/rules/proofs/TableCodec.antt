@@ -1,5 +1,6 @@
 -- A table and its cells are each other's inverse: an accepted table is the bytes of its cells, and the bytes of sound cells are an accepted table that says those cells.
 -- By the laws of one cell, over the pieces that the header's count cuts; and heads that may be built on make sound cells.
+use Rattle.std.specs.Prelude.{Ok}
 use mathlib.Core.Path.{◌≡◌, refl, ap, ◌∙◌}
 use mathlib.Core.Bool.{true}
 use mathlib.Core.List.{List, [], ◌∷◌, map, flat_map, append-nil, map-map, map-id}
@@ -17,7 +18,6 @@ use Rattle.rules.specs.Layout.{Version, header_fields, header_size, cell_size, p
 use Rattle.rules.specs.Table.{Cell, cell_of, cell_bytes, legal_cell, cell_count, cell_runs, cells_of, header_bytes, table_bytes, identity_at}
 use Rattle.rules.specs.Sound.{fits, sound_cell, identity_of_cell, sound_cells}
 use Rattle.rules.specs.Refusals.{table_verdict}
-use Rattle.rules.specs.declared.Verdict.TheVariants.{Accepted}
 use Rattle.rules.proofs.MapLaws.{flat_map-map}
 use Rattle.rules.proofs.AllLaws.{All, all_every, every_all, all_imply, all_both, all_map, map_all, flat_map_all, all_pieces, bytes-flat_map_all}
 use Rattle.rules.proofs.FitLaws.{fits-Fit, length-written}
@@ -35,7 +35,7 @@ module _ (v : Version) where
   unfolding cells_of
   length_cells_of t = length-map (cell_runs v t) (cell_of v) ∙ length-pieces (cell_size v) (cell_count t) (drop header_size t)
 
-  module _ (t : List ℕ) (bytes : Bytes t) (accepted : table_verdict v t ≡ Accepted) where
+  module _ (t : List ℕ) (bytes : Bytes t) (accepted : table_verdict v t ≡ Ok tt) where
     behind : length (drop header_size t) ≡ cell_size v * cell_count t
     behind = let s = (table-accepted v t accepted).size in rw length-drop (omega arith)
 
@@ -115,7 +115,7 @@ module _ (v : Version) where
     table-again =
         rw (runs_of_table_bytes, map-map (cell_of v) (cell_bytes v) cells, map_all (λ c. cell_of v (cell_bytes v c)) (λ c. c) again_each) (map-id cells)
 
-    pub table-legal : table_verdict v (table_bytes v cells) ≡ Accepted
+    pub table-legal : table_verdict v (table_bytes v cells) ≡ Ok tt
     unfolding field_of cell_of
     table-legal =
         let s = sound-cells v cells sound in

@@ -1,5 +1,6 @@
 -- What an accepted verdict gives, and what gives one: tests in order, then the tests of a request.
 -- By the cases of the first verdict or test; each refusal would be a second value of the same verdict.
+use Rattle.std.specs.Prelude.{Ok, Err}
 use mathlib.Core.Path.{◌≡◌, refl, sym, ap, ◌∙◌}
 use mathlib.Core.Bool.{Bool, true, false, not, ◌&&◌, ◌||◌}
 use mathlib.Core.List.{List, [], ◌∷◌, ◌++◌}
@@ -13,32 +14,30 @@ use Rattle.rules.specs.Layout.{Version, current, longest_period, header_size, ce
 use Rattle.rules.specs.Table.{cell_count}
 use Rattle.rules.specs.Record.{request_of, item_end, write_replace, kind_allows, area_fits, within_limits, cancels_nothing}
 use Rattle.rules.specs.Answer.{room_for}
-use Rattle.rules.specs.Refusals.{refuse_unless, ◌then◌, Test, test, first_of, Held, few_items, fits_in, head_count, legal_heads, table_tests, older_tests, request_tests, record_tests, table_verdict, older_verdict, request_verdict, record_verdict, write_verdict, apply_verdict, build_verdict, convert_verdict}
+use Rattle.rules.specs.Refusals.{refuse_unless, ◌then◌, Test, test, first_of, Held, few_items, fits_in, head_count, legal_heads, table_tests, older_tests, request_tests, record_tests, table_verdict, older_verdict, request_verdict, record_verdict, write_verdict, apply_verdict, build_verdict, convert_verdict, Verdict}
 use Rattle.rules.specs.declared.Seconds.{Seconds}
 use Rattle.rules.specs.declared.Request.{Request}
 use Rattle.rules.specs.declared.Refusal.{Refusal}
 use Rattle.rules.specs.declared.Refusal.TheVariants.{RecordLength, ShortBuffer, BadHeads}
-use Rattle.rules.specs.declared.Verdict.{Verdict}
-use Rattle.rules.specs.declared.Verdict.TheVariants.{Accepted, Refused}
 use Rattle.rules.proofs.TestLaws.{both, or_else, else_or}
 
 -- ---- tests in order
 
-pub then_accepted : (a b : Verdict) → a then b ≡ Accepted → (a ≡ Accepted) × (b ≡ Accepted)
-then_accepted Accepted b e = (refl, e)
-then_accepted (Refused x) b e = let z : ◌≡◌ {A = ℕ} 0 1 = cc in absurd (omega arith)
+pub then_accepted : (a b : Verdict) → a then b ≡ Ok tt → (a ≡ Ok tt) × (b ≡ Ok tt)
+then_accepted (Ok tt) b e = (refl, e)
+then_accepted (Err x) b e = let z : ◌≡◌ {A = ℕ} 0 1 = cc in absurd (omega arith)
 
-pub unless_accepted : (b : Bool) (x : Refusal) → refuse_unless b x ≡ Accepted → b ≡ true
+pub unless_accepted : (b : Bool) (x : Refusal) → refuse_unless b x ≡ Ok tt → b ≡ true
 unless_accepted true x e = refl
 unless_accepted false x e = let z : ◌≡◌ {A = ℕ} 0 1 = cc in absurd (omega arith)
 
 then_assoc : (a b c : Verdict) → (a then b) then c ≡ a then b then c
-then_assoc Accepted b c = refl
-then_assoc (Refused x) b c = refl
+then_assoc (Ok tt) b c = refl
+then_assoc (Err x) b c = refl
 
-pub then_end : (a : Verdict) → a then Accepted ≡ a
-then_end Accepted = refl
-then_end (Refused x) = refl
+pub then_end : (a : Verdict) → a then (Ok tt) ≡ a
+then_end (Ok tt) = refl
+then_end (Err x) = refl
 
 -- tests behind tests
 pub first_append : (xs ys : List Test) → first_of (xs ++ ys) ≡ first_of xs then first_of ys
@@ -50,7 +49,7 @@ first-last : (xs : List Test) (b : Bool) (x : Refusal) → first_of (xs ++ (test
 first-last xs b x = rw (first_append xs (test b x ∷ []), then_end (refuse_unless b x))
 
 -- what is accepted has passed every test
-pub all_held : (ts : List Test) → first_of ts ≡ Accepted → Held ts
+pub all_held : (ts : List Test) → first_of ts ≡ Ok tt → Held ts
 all_held [] e = tt
 all_held (t ∷ ts) e =
     let h = then_accepted (refuse_unless t.holds t.refusal) (first_of ts) e in
@@ -93,7 +92,7 @@ pub record AllowedRequest (longest : Seconds) (q : Request) (items : List ℕ) :
   pub limits : within_limits longest q items ≡ true
   pub some : cancels_nothing q ≡ false
 
-pub request-accepted : (longest : Seconds) (q : Request) (items : List ℕ) → request_verdict longest q items ≡ Accepted → AllowedRequest longest q items
+pub request-accepted : (longest : Seconds) (q : Request) (items : List ℕ) → request_verdict longest q items ≡ Ok tt → AllowedRequest longest q items
 unfolding request_verdict
 request-accepted longest q items e =
     let h = all_held (request_tests true longest q items) e in
@@ -105,7 +104,7 @@ request-accepted longest q items e =
       some = not-true (cancels_nothing q) h.1.1.0;
     }
 
-pub accepted-request : (longest : Seconds) (q : Request) (items : List ℕ) → AllowedRequest longest q items → request_verdict longest q items ≡ Accepted
+pub accepted-request : (longest : Seconds) (q : Request) (items : List ℕ) → AllowedRequest longest q items → request_verdict longest q items ≡ Ok tt
 unfolding request_verdict
 accepted-request longest q items a = rw (a.kind, a.area, a.limits, a.some)
 
@@ -121,7 +120,7 @@ within_longer a b q items h e =
     rw (le-leb q.period.0 b.0 (omega (arith, leb-true q.period.0 a.0 p.0)), p.1, s.1) in
     rw (start, w.1)
 
-pub allowed_longer : (a b : Seconds) (q : Request) (items : List ℕ) → a.0 ≤ b.0 → request_verdict a q items ≡ Accepted → request_verdict b q items ≡ Accepted
+pub allowed_longer : (a b : Seconds) (q : Request) (items : List ℕ) → a.0 ≤ b.0 → request_verdict a q items ≡ Ok tt → request_verdict b q items ≡ Ok tt
 allowed_longer a b q items h e =
     let r = request-accepted a q items e in
     accepted-request b q items

@@ -1,30 +1,29 @@
 -- A number is given exactly if its test fails and no earlier one does: one law over a list of tests, cited for each verdict.
 -- By the list, and the truth of its first test; the order of the numbers is computed.
+use Rattle.std.specs.Prelude.{Ok, Err}
 use mathlib.Core.Path.{◌≡◌, refl, ap, ◌∙◌}
 use mathlib.Core.Bool.{true, false}
 use mathlib.Core.List.{List, [], ◌∷◌, ◌++◌}
 use Prim.Native.Nat.{ℕ}
 use native.Mathlib.Omega.{arith}
 use Rattle.rules.specs.Lists.{ascending, above}
-use Rattle.rules.specs.Refusals.{Test, test, first_of, Held, FailsFirst, Exact, VerdictsHold, table_verdict, older_verdict, record_verdict, write_verdict, apply_verdict, build_verdict, convert_verdict}
+use Rattle.rules.specs.Refusals.{Test, test, first_of, Held, FailsFirst, Exact, VerdictsHold, table_verdict, older_verdict, record_verdict, write_verdict, apply_verdict, build_verdict, convert_verdict, Verdict}
 use Rattle.rules.specs.declared.Refusal.{Refusal}
 use Rattle.rules.specs.declared.Refusal.TheVariants.{TableMark}
-use Rattle.rules.specs.declared.Verdict.{Verdict}
-use Rattle.rules.specs.declared.Verdict.TheVariants.{Accepted, Refused}
 use Rattle.rules.proofs.TestLaws.{by_test}
 use Rattle.rules.proofs.VerdictLaws.{all_held}
 
 -- ---- refused
 
-fails_first : (before behind : List Test) (x : Refusal) → Held before → first_of (before ++ (test false x ∷ behind)) ≡ Refused x
+fails_first : (before behind : List Test) (x : Refusal) → Held before → first_of (before ++ (test false x ∷ behind)) ≡ Err x
 fails_first [] behind x h = refl
 fails_first (t ∷ ts) behind x h = rw h.0 (fails_first ts behind x h.1)
 
 abbrev given : Verdict → Refusal
-given Accepted = TableMark
-given (Refused x) = x
+given (Ok tt) = TableMark
+given (Err x) = x
 
-not-refused : (x : Refusal) → Accepted ≡ Refused x → ⊥
+not-refused : (x : Refusal) → ◌≡◌ {A = Verdict} (Ok tt) (Err x) → ⊥
 not-refused x e = let z : ◌≡◌ {A = ℕ} 0 1 = cc in omega (arith, z)
 
 -- one more test in front that holds
@@ -40,7 +39,7 @@ behind-held t ts x h f =
 same_test : (t : Test) (x : Refusal) → t.holds ≡ false → t.refusal ≡ x → t ≡ test false x
 same_test t x p q = rw (← p, ← q)
 
-refused-first : (ts : List Test) (x : Refusal) → first_of ts ≡ Refused x → FailsFirst x ts
+refused-first : (ts : List Test) (x : Refusal) → first_of ts ≡ Err x → FailsFirst x ts
 refused-first [] x e = absurd (not-refused x e)
 refused-first (t ∷ ts) x e =
     by_test t.holds (λ h. behind-held t ts x h (refused-first ts x (rw h at e))) λ h.
@@ -53,7 +52,7 @@ refused-first (t ∷ ts) x e =
 
 -- ---- accepted
 
-none_fails : (ts : List Test) → Held ts → first_of ts ≡ Accepted
+none_fails : (ts : List Test) → Held ts → first_of ts ≡ Ok tt
 none_fails [] h = refl
 none_fails (t ∷ ts) h = rw h.0 (none_fails ts h.1)
 

@@ -1,5 +1,6 @@
 -- A record renewed does what it did, if its own version knows its period; and what a unit accepts says a version that it takes, and a period that this version knows.
 -- A renewed record has the same fields and items, and only the limit of its period is another.
+use Rattle.std.specs.Prelude.{Ok, Err}
 use mathlib.Core.Path.{◌≡◌, refl}
 use mathlib.Core.Bool.{true, false, false≢true, ◌&&◌}
 use mathlib.Core.List.{List}
@@ -12,14 +13,12 @@ use Rattle.octets.proofs.NumbersLaws.{length-to_be}
 use Rattle.rules.specs.Lists.{zeros, one_of}
 use Rattle.rules.specs.Layout.{Version, version_number, version_of, current, longest_period, record_size, record_version}
 use Rattle.rules.specs.Record.{Kind, request_of, items_of, version_in, takes_version, record_marked, renewed, longest_asked, allowed, allowed_by, kind_allows, within_limits}
-use Rattle.rules.specs.Refusals.{◌then◌, table_verdict, request_verdict, record_verdict}
+use Rattle.rules.specs.Refusals.{◌then◌, table_verdict, request_verdict, record_verdict, Verdict}
 use Rattle.rules.specs.Applied.{outcome, applied}
 use Rattle.rules.specs.declared.Request.{Request}
 use Rattle.rules.specs.declared.Seconds.{Seconds}
 use Rattle.rules.specs.declared.Refusal.{Refusal}
 use Rattle.rules.specs.declared.Refusal.TheVariants.{RecordMark}
-use Rattle.rules.specs.declared.Verdict.{Verdict}
-use Rattle.rules.specs.declared.Verdict.TheVariants.{Accepted, Refused}
 use Rattle.rules.proofs.TestLaws.{both, and-true, by_test}
 use Rattle.rules.proofs.AllLaws.{all_every, all_at}
 use Rattle.rules.proofs.StartLaws.{write_limits}
@@ -44,14 +43,14 @@ short-renewed r s =
     lt-leb record_size (length (renewed r)) (rw (n, length-take, length-drop) (omega (arith, leb-false record_size (length r) s)))
 
 -- and refused, whatever else they say
-short-refused : (v : Version) (r : List ℕ) → leb record_size (length r) ≡ false → record_verdict v r ≡ Refused RecordMark
+short-refused : (v : Version) (r : List ℕ) → leb record_size (length r) ≡ false → record_verdict v r ≡ Err RecordMark
 unfolding record_verdict record_marked
 short-refused v r s = rw s
 
-refused_alike : (w : Verdict) (x : Refusal) (q p : Request) (items others t a : List ℕ) → outcome current (w then Refused x) q items t a ≡ outcome current (w then Refused x) p others t a
+refused_alike : (w : Verdict) (x : Refusal) (q p : Request) (items others t a : List ℕ) → outcome current (w then Err x) q items t a ≡ outcome current (w then Err x) p others t a
 unfolding outcome
-refused_alike Accepted x q p items others t a = refl
-refused_alike (Refused y) x q p items others t a = refl
+refused_alike (Ok tt) x q p items others t a = refl
+refused_alike (Err y) x q p items others t a = refl
 
 module _ (r : List ℕ) (taken : takes_version current (version_in r) ≡ true) (known : (request_of r).period.0 ≤ (longest_asked r).0) where
   long-verdict : record_size ≤ length r → record_verdict current (renewed r) ≡ record_verdict current r
@@ -86,7 +85,7 @@ zero_field q flags areas zero e k h =
     eqb-true (get_or zero k 0) 0 (all_at (all_every (λ x. eqb x 0) zero (both (one_of q.flags flags && one_of q.area areas) (zeros zero) e).1) k 0 h)
 
 -- a start has a period within the limit, and any other kind none
-short-period : (v : Version) (q : Request) (items : List ℕ) → request_verdict (longest_period v) q items ≡ Accepted → q.period.0 ≤ (longest_period v).0
+short-period : (v : Version) (q : Request) (items : List ℕ) → request_verdict (longest_period v) q items ≡ Ok tt → q.period.0 ≤ (longest_period v).0
 unfolding kind_allows
 short-period v q items e =
     let a = request-accepted (longest_period v) q items e in
@@ -100,7 +99,7 @@ short-period v q items e =
     a.kind
 
 -- what a unit accepts says a version that it takes, and has a period that this version knows: 0 if it is no start
-module _ (v : Version) (r : List ℕ) (e : record_verdict v r ≡ Accepted) where
+module _ (v : Version) (r : List ℕ) (e : record_verdict v r ≡ Ok tt) where
   pub taken-version : takes_version v (version_in r) ≡ true
   taken-version = (record-accepted v r e).version
 

@@ -1,5 +1,5 @@
 -- What each entry point leaves behind, whole: the number, the length and every byte of every lent buffer.
-use Rattle.std.specs.Prelude.{cond, List, [], map, ℕ, ◌+◌, ◌*◌, leb, length}
+use Rattle.std.specs.Prelude.{cond, List, [], map, ℕ, ◌+◌, ◌*◌, leb, length, Ok, Err}
 use Rattle.std.proofs.lemmas.List.Edits.{sets}
 use Rattle.octets.specs.Runs.{gets}
 use Rattle.octets.specs.Numbers.{be}
@@ -10,13 +10,8 @@ use Rattle.rules.specs.Reach.{reaches}
 use Rattle.rules.specs.InCell.{in_cell}
 use Rattle.rules.specs.Reply.{reply_of}
 use Rattle.rules.specs.Answer.{Answer, answer_to, answer_bytes}
-use Rattle.rules.specs.Refusals.{number_of, writing_number, writing_length, head_runs, record_verdict, write_verdict, apply_verdict, build_verdict, convert_verdict}
+use Rattle.rules.specs.Refusals.{number_of, writing_number, writing_length, head_runs, record_verdict, write_verdict, apply_verdict, build_verdict, convert_verdict, Verdict, Writing, Reading}
 use Rattle.rules.specs.declared.Request.{Request}
-use Rattle.rules.specs.declared.Writing.{Writing}
-use Rattle.rules.specs.declared.Reading.{Reading}
-use Rattle.rules.specs.declared.Reading.TheVariants.{Fields, Unread}
-use Rattle.rules.specs.declared.Verdict.{Verdict}
-use Rattle.rules.specs.declared.Verdict.TheVariants.{Accepted, Refused}
 
 -- ---- one buffer is filled: by the builder, by the converter and by the record writer
 
@@ -27,8 +22,8 @@ pub record Filled : Type 0 where
 
 -- accepted: the bytes at the start of the buffer, and what is behind them stays; refused: nothing is written
 unfoldable pub fill : Verdict → List ℕ → List ℕ → Filled
-fill Accepted bs buffer = record { number = 0; length = length bs; buffer = sets buffer 0 bs }
-fill (Refused x) bs buffer = record { number = number_of x; length = 0; buffer = buffer }
+fill (Ok tt) bs buffer = record { number = 0; length = length bs; buffer = sets buffer 0 bs }
+fill (Err x) bs buffer = record { number = number_of x; length = 0; buffer = buffer }
 
 -- what an answer, and the buffer that it leaves, say
 abbrev pub filled_by : Writing → List ℕ → Filled
@@ -74,16 +69,16 @@ no_request =
 
 -- the fields and the count of items; all 0 if refused
 unfoldable pub reading : Verdict → List ℕ → ReadOutcome
-reading Accepted r = record { number = 0; request = request_of r; items = item_count r }
-reading (Refused x) r = record { number = number_of x; request = no_request; items = 0 }
+reading (Ok tt) r = record { number = 0; request = request_of r; items = item_count r }
+reading (Err x) r = record { number = number_of x; request = no_request; items = 0 }
 
 unfoldable pub read_of : List ℕ → ReadOutcome
 read_of r = reading (record_verdict current r) r
 
 -- what a reading says: document 01's number and values for each of its cases
 abbrev pub read_by : Reading → ReadOutcome
-read_by (Fields q n) = record { number = 0; request = q; items = n }
-read_by (Unread x) = record { number = number_of x; request = no_request; items = 0 }
+read_by (Ok (q, n)) = record { number = 0; request = q; items = n }
+read_by (Err x) = record { number = number_of x; request = no_request; items = 0 }
 
 -- the k-th item as a number, 0 where the record ends before it
 unfoldable pub item_at : List ℕ → ℕ → ℕ
@@ -118,8 +113,8 @@ answered v t r = answer_to (request_of r) (reply_of (request_of r) (items_of r) 
 
 -- refused: both buffers as they were; accepted: the cells after the rule, and their reply, as an answer, at the start of its buffer
 unfoldable pub outcome : Version → Verdict → Request → List ℕ → List ℕ → List ℕ → Outcome
-outcome v (Refused x) q items t a = record { number = number_of x; length = 0; table = t; answer = a }
-outcome v Accepted q items t a =
+outcome v (Err x) q items t a = record { number = number_of x; length = 0; table = t; answer = a }
+outcome v (Ok tt) q items t a =
     let bs = answer_bytes v (answer_to q (reply_of q items (cells_of v t))) in
     record {
       number = 0;

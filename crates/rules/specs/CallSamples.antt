@@ -1,6 +1,6 @@
 -- Calls on document 01's sample bytes, and all that each leaves: a start and a cancel of one text, in one cell and in two.
 -- The demands show on them that an order counts, and that no wrong unit passes.
-use Rattle.std.specs.Prelude.{◌≡◌, Bool, true, false, ◌&&◌, List, [], ◌∷◌, ◌++◌, ℕ, length}
+use Rattle.std.specs.Prelude.{◌≡◌, Bool, true, false, ◌&&◌, List, [], ◌∷◌, ◌++◌, ℕ, length, Ok}
 use Rattle.octets.specs.Runs.{Bytes}
 use Rattle.rules.specs.Lists.{any}
 use Rattle.rules.specs.Layout.{current}
@@ -13,7 +13,6 @@ use Rattle.rules.specs.Applied.{Outcome, applied}
 use Rattle.rules.specs.ByHand.{identity, free, request, starts, cancels, answers, says, blank, leaves, one}
 use Rattle.rules.specs.Samples.{two, twice, flood}
 use Rattle.rules.specs.declared.Place.{Place}
-use Rattle.rules.specs.declared.Verdict.TheVariants.{Accepted}
 
 -- ---- records
 
@@ -63,7 +62,7 @@ flood_place sent wait =
 pub record CallGives (t r : List ℕ) (o : Outcome) : Type 0 where
   pub table-bytes : Bytes t
   pub record-bytes : Bytes r
-  pub accepted : apply_verdict current t r (length blank) ≡ Accepted
+  pub accepted : apply_verdict current t r (length blank) ≡ Ok tt
   pub gives : applied current t r blank ≡ o
 
 abbrev pub reached_by : List ℕ → Cell → Bool

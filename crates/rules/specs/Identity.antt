@@ -1,8 +1,6 @@
 -- "A cell identity is made from its PLMN and its 36-bit part", and a tracking area from the PLMN and its code.
-use Rattle.std.specs.Prelude.{cond, ◌&&◌, ℕ, ◌+◌, ◌*◌, ◌/◌, ◌%◌, ◌^◌, ltb}
+use Rattle.std.specs.Prelude.{Option, cond, ◌&&◌, ℕ, ◌+◌, ◌*◌, ◌/◌, ◌%◌, ◌^◌, ltb, Some, None}
 use Rattle.rules.specs.declared.CellIdentity.{CellIdentity}
-use Rattle.rules.specs.declared.MadeIdentity.{MadeIdentity}
-use Rattle.rules.specs.declared.MadeIdentity.TheVariants.{Identity, TooLarge}
 
 abbrev pub plmn_end : ℕ
 plmn_end = 2 ^ 24
@@ -27,9 +25,9 @@ abbrev pub part_of : ℕ → ℕ
 part_of identity = identity % part_end
 
 -- a PLMN and a part that fit make an identity
-unfoldable pub identity_answer : ℕ → ℕ → MadeIdentity
+unfoldable pub identity_answer : ℕ → ℕ → Option CellIdentity
 identity_answer plmn part =
-    cond (ltb plmn plmn_end && ltb part part_end) (Identity (record { 0 = identity_of plmn part })) TooLarge
+    cond (ltb plmn plmn_end && ltb part part_end) (Some (record { 0 = identity_of plmn part })) None
 
 -- the item that names the cell
 abbrev pub cell_item : ℕ → ℕ

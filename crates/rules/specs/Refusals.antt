@@ -1,5 +1,5 @@
 -- Document 01's numbered refusals: when each is given, and in which order they are tested.
-use Rattle.std.specs.Prelude.{◌≡◌, Bool, true, false, not, ◌&&◌, List, [], ◌∷◌, ◌++◌, map, ℕ, ◌+◌, ◌*◌, ◌/◌, ◌%◌, eqb, leb, length}
+use Rattle.std.specs.Prelude.{◌≡◌, Result, Bool, true, false, not, ◌&&◌, List, [], ◌∷◌, ◌++◌, map, ℕ, ◌+◌, ◌*◌, ◌/◌, ◌%◌, eqb, leb, length, Ok, Err}
 use Rattle.octets.specs.Runs.{pieces}
 use Rattle.rules.specs.Lists.{every, ascending}
 use Rattle.rules.specs.Layout.{Version, version_number, current, longest_period, header_size, head_size, cell_size, most_cells, record_size, item_size, most_items}
@@ -10,10 +10,17 @@ use Rattle.rules.specs.declared.Seconds.{Seconds}
 use Rattle.rules.specs.declared.Request.{Request}
 use Rattle.rules.specs.declared.Refusal.{Refusal}
 use Rattle.rules.specs.declared.Refusal.TheVariants.{TableMark, TableWrong, RecordMark, RecordLength, RecordFields, RecordLimits, CancelsNothing, ShortBuffer, BadHeads, ListDamaged, TooManySegments, NoSuchSegment, BadEncoding, OtherMessage, UnknownElement, ElementsWrong, AnswerWrong}
-use Rattle.rules.specs.declared.Verdict.{Verdict}
-use Rattle.rules.specs.declared.Verdict.TheVariants.{Accepted, Refused}
-use Rattle.rules.specs.declared.Writing.{Writing}
-use Rattle.rules.specs.declared.Writing.TheVariants.{Written, Unwritten}
+
+-- ---- what a judge says; what whoever fills a buffer answers, which is the length written; what the reader answers, which is the fields and the count of items
+
+abbrev pub Verdict : Type 0
+Verdict = Result (Unit {0}) Refusal
+
+abbrev pub Writing : Type 0
+Writing = Result ℕ Refusal
+
+abbrev pub Reading : Type 0
+Reading = Result (Request × ℕ) Refusal
 
 -- ---- numbers: 10 to 12 are those of a list of segments (crate segments), 13 to 16 those of a message on the wire (crate wire), 17 that of an answer to be sent there
 
@@ -37,29 +44,29 @@ number_of ElementsWrong = 16
 number_of AnswerWrong = 17
 
 abbrev pub verdict_number : Verdict → ℕ
-verdict_number Accepted = 0
-verdict_number (Refused x) = number_of x
+verdict_number (Ok tt) = 0
+verdict_number (Err x) = number_of x
 
 -- "A refusal returns its number and length 0"; "Success returns 0 and the length written"
 abbrev pub writing_number : Writing → ℕ
-writing_number (Written n) = 0
-writing_number (Unwritten x) = number_of x
+writing_number (Ok n) = 0
+writing_number (Err x) = number_of x
 
 abbrev pub writing_length : Writing → ℕ
-writing_length (Written n) = n
-writing_length (Unwritten x) = 0
+writing_length (Ok n) = n
+writing_length (Err x) = 0
 
 -- ---- tests in order
 
 abbrev pub refuse_unless : Bool → Refusal → Verdict
-refuse_unless true x = Accepted
-refuse_unless false x = Refused x
+refuse_unless true x = Ok tt
+refuse_unless false x = Err x
 
 -- the first that refuses
 infixr 20 ◌then◌
 abbrev pub ◌then◌ : Verdict → Verdict → Verdict
-Accepted then v = v
-Refused x then v = Refused x
+(Ok tt) then v = v
+Err x then v = Err x
 
 -- what must hold, and the refusal that is given where it does not
 pub record Test : Type 0 where
@@ -71,7 +78,7 @@ test b x = record { holds = b; refusal = x }
 
 -- the refusal of the first test that fails
 abbrev pub first_of : List Test → Verdict
-first_of [] = Accepted
+first_of [] = Ok tt
 first_of (t ∷ ts) = refuse_unless t.holds t.refusal then first_of ts
 
 -- ---- the tests, by their numbers. 1: table_marked, of an older version older_marked. 2: legal_table. 3: record_marked. 6: within_limits
@@ -200,10 +207,10 @@ pub record FailsFirst (x : Refusal) (ts : List Test) : Type 0 where
 
 -- a verdict refuses with x exactly if x's test is the first that fails, and accepts exactly if all hold
 pub record Exact (v : Verdict) (ts : List Test) : Type 0 where
-  pub refused : (x : Refusal) → v ≡ Refused x → FailsFirst x ts
-  pub refuses : (x : Refusal) → FailsFirst x ts → v ≡ Refused x
-  pub accepted : v ≡ Accepted → Held ts
-  pub accepts : Held ts → v ≡ Accepted
+  pub refused : (x : Refusal) → v ≡ Err x → FailsFirst x ts
+  pub refuses : (x : Refusal) → FailsFirst x ts → v ≡ Err x
+  pub accepted : v ≡ Ok tt → Held ts
+  pub accepts : Held ts → v ≡ Ok tt
 
 -- each number has one test, and the lower number is tested first
 abbrev pub LowestFirst : List Test → Type 0

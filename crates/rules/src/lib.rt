@@ -127,57 +127,28 @@ impl Refusal {
     }
 }
 
-// What a judge says.
-#[derive(Clone, Copy)]
-pub enum Verdict {
-    Accepted,
-    Refused(Refusal),
-}
-
-// What whoever fills a buffer answers: the length written, or why nothing was.
-#[derive(Clone, Copy)]
-pub enum Writing {
-    Written(usize),
-    Unwritten(Refusal),
-}
-
-impl Writing {
-    pub fn number(self) -> u32
-        ensures { result ≡ writing_number self }
-    {
-        match self {
-            Writing::Written(_) => 0,
-            Writing::Unwritten(refusal) => refusal.number(),
-        }
-    }
-
-    pub fn length(self) -> usize
-        ensures { result ≡ writing_length self }
-    {
-        match self {
-            Writing::Written(bytes) => bytes,
-            Writing::Unwritten(_) => 0,
-        }
+// What whoever fills a buffer answers is the length written, or why nothing was. As two numbers:
+pub fn writing_number(writing: Result<usize, Refusal>) -> u32
+    ensures { result ≡ writing_number writing }
+{
+    match writing {
+        Ok(_) => 0,
+        Err(refusal) => refusal.number(),
     }
 }
 
-// What the reader answers: the fields and the count of items, or why there are none.
-#[derive(Clone, Copy)]
-pub enum Reading {
-    Fields(Request, usize),
-    Unread(Refusal),
+pub fn writing_length(writing: Result<usize, Refusal>) -> usize
+    ensures { result ≡ writing_length writing }
+{
+    match writing {
+        Ok(bytes) => bytes,
+        Err(_) => 0,
+    }
 }
 
 // NR CGI: a 24-bit PLMN, then 36 bits.
-#[derive(Clone, Copy)]
+#[derive(Clone, Copy, PartialEq, Eq, PartialOrd, Ord)]
 pub struct CellIdentity(pub u64);
-
-// The answer to a PLMN and a part that are to make an identity.
-#[derive(Clone, Copy)]
-pub enum MadeIdentity {
-    Identity(CellIdentity),
-    TooLarge,
-}
 
 impl CellIdentity {
     pub const PLMN_BITS: u32 = 24;
@@ -186,16 +157,17 @@ impl CellIdentity {
 
     pub const LARGEST: u64 = (1 << (CellIdentity::PLMN_BITS + CellIdentity::PART_BITS)) - 1;
 
-    pub fn new(plmn: u32, part: u64) -> MadeIdentity
+    // None where either is too large.
+    pub fn new(plmn: u32, part: u64) -> Option<CellIdentity>
         ensures { result ≡ identity_answer plmn part }
     {
         if PLMN_END <= plmn {
-            return MadeIdentity::TooLarge;
+            return None;
         }
         if PART_END <= part {
-            return MadeIdentity::TooLarge;
+            return None;
         }
-        MadeIdentity::Identity(CellIdentity((plmn as u64) * PART_END + part))
+        Some(CellIdentity((plmn as u64) * PART_END + part))
     }
 
     pub fn plmn(self) -> u32

@@ -1,12 +1,12 @@
 -- One outcome only: what a public function of this crate returns and leaves, its contract settles. Of a reference: its bytes and where they lie.
 -- Each promise is an equation with a definition, and no two parts or writings say the same.
+use Rattle.rules.specs.Refusals.{Writing}
 use mathlib.Core.Path.{◌≡◌, ap}
 use mathlib.Core.List.{List}
 use Prim.Native.Nat.{ℕ}
 use native.Mathlib.Omega.{arith}
 use Rattle.octets.specs.Settled.{Settles, SettlesResult}
 use Rattle.octets.proofs.Once.{one-outcome, both_once}
-use Rattle.rules.specs.declared.Writing.{Writing}
 use Rattle.rules.proofs.OnceLaws.{filled_injective, number_injective}
 use Rattle.rules.proofs.OutcomeLaws.{number_positive}
 use Rattle.segments.specs.Segments.{Lies, lies_by}

@@ -1,5 +1,6 @@
 -- The verdict of a packing and its outcome: each refusal by the test that fails, and what an accepted one says.
 -- The tests stand in the order of the definition, so each is settled by those before it.
+use Rattle.std.specs.Prelude.{Ok, Err}
 use mathlib.Core.Path.{◌≡◌, sym}
 use mathlib.Core.Bool.{true, false}
 use mathlib.Core.List.{List}
@@ -11,8 +12,6 @@ use lib.Seq.{sets}
 use borrow.Author.Tests.{le-leb, lt-leb, leb-true}
 use Rattle.rules.specs.Refusals.{refuse_unless, ◌then◌}
 use Rattle.rules.specs.Applied.{fill, filled_by}
-use Rattle.rules.specs.declared.Verdict.TheVariants.{Accepted, Refused}
-use Rattle.rules.specs.declared.Writing.TheVariants.{Written, Unwritten}
 use Rattle.rules.specs.declared.Refusal.TheVariants.{ListDamaged, TooManySegments, ShortBuffer}
 use Rattle.rules.specs.declared.Refusal.{Refusal}
 use Rattle.rules.proofs.VerdictLaws.{then_accepted, unless_accepted}
@@ -23,20 +22,20 @@ use Rattle.segments.proofs.CutLaws.{length_cut}
 -- ---- the tests in their order
 
 module _ (bytes lengths : List ℕ) (room : ℕ) where
-  pub pack_damaged : lengths_fit lengths (length bytes) ≡ false → Refused ListDamaged ≡ pack_verdict bytes lengths room
+  pub pack_damaged : lengths_fit lengths (length bytes) ≡ false → Err ListDamaged ≡ pack_verdict bytes lengths room
   unfolding pack_verdict
   pack_damaged h = rw h
 
   module _ (fit : lengths_fit lengths (length bytes) ≡ true) where
-    pub pack-too_many : most_segments < length lengths → Refused TooManySegments ≡ pack_verdict bytes lengths room
+    pub pack-too_many : most_segments < length lengths → Err TooManySegments ≡ pack_verdict bytes lengths room
     unfolding pack_verdict
     pack-too_many h = rw (fit, lt-leb (length lengths) most_segments h)
 
-    pub pack-short : length lengths ≤ most_segments → room < length_size * length lengths + length bytes → Refused ShortBuffer ≡ pack_verdict bytes lengths room
+    pub pack-short : length lengths ≤ most_segments → room < length_size * length lengths + length bytes → Err ShortBuffer ≡ pack_verdict bytes lengths room
     unfolding pack_verdict
     pack-short few h = rw (fit, le-leb (length lengths) most_segments few, length_cut lengths bytes fit, lt-leb (length_size * length lengths + length bytes) room h)
 
-    pub pack-accepted : length lengths ≤ most_segments → length_size * length lengths + length bytes ≤ room → Accepted ≡ pack_verdict bytes lengths room
+    pub pack-accepted : length lengths ≤ most_segments → length_size * length lengths + length bytes ≤ room → (Ok tt) ≡ pack_verdict bytes lengths room
     unfolding pack_verdict
     pack-accepted few h = rw (fit, le-leb (length lengths) most_segments few, length_cut lengths bytes fit, le-leb (length_size * length lengths + length bytes) room h)
 
@@ -47,7 +46,7 @@ pub record AcceptedPack (bytes lengths : List ℕ) (room : ℕ) : Type 0 where
   pub few : length lengths ≤ most_segments
   pub holds : length (list_bytes (cut_at lengths bytes)) ≤ room
 
-module _ (bytes lengths : List ℕ) (room : ℕ) (v : pack_verdict bytes lengths room ≡ Accepted) where
+module _ (bytes lengths : List ℕ) (room : ℕ) (v : pack_verdict bytes lengths room ≡ Ok tt) where
   pub pack-says : AcceptedPack bytes lengths room
   unfolding pack_verdict
   pack-says =
@@ -67,7 +66,7 @@ module _ (bytes lengths : List ℕ) (room : ℕ) (v : pack_verdict bytes lengths
   pub pack_ready : ToPack bytes lengths room
   pack_ready = record { fit = pack-says.fit; holds = omega (arith, pack-says.holds, pack-size) }
 
-pub accepted-pack : (bytes lengths : List ℕ) (room : ℕ) → AcceptedPack bytes lengths room → pack_verdict bytes lengths room ≡ Accepted
+pub accepted-pack : (bytes lengths : List ℕ) (room : ℕ) → AcceptedPack bytes lengths room → pack_verdict bytes lengths room ≡ Ok tt
 unfolding pack_verdict
 accepted-pack bytes lengths room a =
     rw (a.fit, le-leb (length lengths) most_segments a.few, le-leb (length (list_bytes (cut_at lengths bytes))) room a.holds)
@@ -75,11 +74,11 @@ accepted-pack bytes lengths room a =
 -- ---- the outcome
 
 module _ (bytes lengths list list' : List ℕ) where
-  pub pack-done : pack_verdict bytes lengths (length list) ≡ Accepted → list' ≡ sets list 0 (list_bytes (cut_at lengths bytes))
-      → filled_by (Written (length_size * length lengths + length bytes)) list' ≡ packed bytes lengths list
+  pub pack-done : pack_verdict bytes lengths (length list) ≡ Ok tt → list' ≡ sets list 0 (list_bytes (cut_at lengths bytes))
+      → filled_by (Ok (length_size * length lengths + length bytes)) list' ≡ packed bytes lengths list
   unfolding packed fill
   pack-done v e = rw (v, e, sym (pack-size bytes lengths (length list) v))
 
-  pub pack-refused : (x : Refusal) → pack_verdict bytes lengths (length list) ≡ Refused x → list' ≡ list → filled_by (Unwritten x) list' ≡ packed bytes lengths list
+  pub pack-refused : (x : Refusal) → pack_verdict bytes lengths (length list) ≡ Err x → list' ≡ list → filled_by (Err x) list' ≡ packed bytes lengths list
   unfolding packed fill
   pack-refused x v e = rw (v, e)

@@ -1,5 +1,6 @@
 -- From where segment k lies to the bytes that are handed back, and where in memory they begin.
 -- An accepted list is the packing of its segments, in which the k-th stands behind those before it.
+use Rattle.std.specs.Prelude.{Ok, Err}
 use mathlib.Core.Path.{◌≡◌, refl, sym, ap, subst, ◌∙◌}
 use mathlib.Core.Bool.{true, cond}
 use mathlib.Core.List.{List, []}
@@ -11,9 +12,7 @@ use lib.ListN.{length, get_or, take, drop}
 use lib.Seq.{take-length}
 use borrow.Author.Tests.{le-leb, leb-true}
 use Rattle.octets.specs.Runs.{Bytes}
-use Rattle.rules.specs.Refusals.{refuse_unless, ◌then◌}
-use Rattle.rules.specs.declared.Verdict.{Verdict}
-use Rattle.rules.specs.declared.Verdict.TheVariants.{Accepted, Refused}
+use Rattle.rules.specs.Refusals.{refuse_unless, ◌then◌, Verdict}
 use Rattle.rules.specs.declared.Refusal.TheVariants.{ListDamaged, TooManySegments, NoSuchSegment}
 use Rattle.rules.specs.declared.Refusal.{Refusal}
 use Rattle.rules.proofs.OutcomeLaws.{number_positive}
@@ -31,7 +30,7 @@ pub record AcceptedList (more : List ℕ) (k : ℕ) : Type 0 where
   pub few : length (segments_of more) ≤ most_segments
   pub among : k ≤ length (segments_of more)
 
-pub list-accepted : (more : List ℕ) (k : ℕ) → segment_verdict more k ≡ Accepted → AcceptedList more k
+pub list-accepted : (more : List ℕ) (k : ℕ) → segment_verdict more k ≡ Ok tt → AcceptedList more k
 unfolding segment_verdict
 list-accepted more k e =
     let few = refuse_unless (leb (length (segments_of more)) most_segments) TooManySegments in
@@ -44,7 +43,7 @@ list-accepted more k e =
       among = leb-true k (length (segments_of more)) (unless_accepted (leb k (length (segments_of more))) NoSuchSegment b.1);
     }
 
-pub accepted-list : (more : List ℕ) (k : ℕ) → AcceptedList more k → segment_verdict more k ≡ Accepted
+pub accepted-list : (more : List ℕ) (k : ℕ) → AcceptedList more k → segment_verdict more k ≡ Ok tt
 unfolding segment_verdict
 accepted-list more k a = rw (a.whole, le-leb (length (segments_of more)) most_segments a.few, le-leb k (length (segments_of more)) a.among)
 
@@ -53,22 +52,22 @@ module _ (first more : List ℕ) (bytes : Bytes more) where
   in_buffer : Lies → Type 0
   in_buffer p = p.start + p.length ≤ length (cond (eqb p.buffer 0) first more)
 
-  packing : (k : ℕ) → segment_verdict more k ≡ Accepted → list_bytes (segments_of more) ≡ more
+  packing : (k : ℕ) → segment_verdict more k ≡ Ok tt → list_bytes (segments_of more) ≡ more
   packing k v = packed_segments more bytes (list-accepted more k v).whole
 
   told-bytes : (v : Verdict) (k : ℕ) → segment_verdict more k ≡ v → bytes_at first more (lying v first more k) ≡ segment_of first more k
   unfolding lying segment_of
-  told-bytes (Refused x) k e = rw e
-  told-bytes Accepted zero e = take-length first ∙ rw e
-  told-bytes Accepted (suc j) e =
+  told-bytes (Err x) k e = rw e
+  told-bytes (Ok tt) zero e = take-length first ∙ rw e
+  told-bytes (Ok tt) (suc j) e =
       ap (λ (b : List ℕ). take (length (get_or (segments_of more) j [])) (drop (start_in (segments_of more) j) b)) (sym (packing (suc j) e))
       ∙ lies-there (segments_of more) j (omega (arith, (list-accepted more (suc j) e).among)) ∙ rw e
 
   told-within : (v : Verdict) (k : ℕ) → segment_verdict more k ≡ v → in_buffer (lying v first more k)
   unfolding lying in_buffer
-  told-within (Refused x) k e = omega arith
-  told-within Accepted zero e = omega arith
-  told-within Accepted (suc j) e = rw (packing (suc j) e) at (lies_within (segments_of more) j (omega (arith, (list-accepted more (suc j) e).among)))
+  told-within (Err x) k e = omega arith
+  told-within (Ok tt) zero e = omega arith
+  told-within (Ok tt) (suc j) e = rw (packing (suc j) e) at (lies_within (segments_of more) j (omega (arith, (list-accepted more (suc j) e).among)))
 
   pub lies-bytes : (k : ℕ) → bytes_at first more (lies_at first more k) ≡ segment_of first more k
   unfolding lies_at
@@ -87,12 +86,12 @@ module _ (first more : List ℕ) (bytes : Bytes more) where
 
 -- what was answered says whether the list and k were accepted
 module _ (first more : List ℕ) where
-  accepted_by : (k : ℕ) (v : Verdict) → segment_verdict more k ≡ v → (lying v first more k).number ≡ 0 → segment_verdict more k ≡ Accepted
+  accepted_by : (k : ℕ) (v : Verdict) → segment_verdict more k ≡ v → (lying v first more k).number ≡ 0 → segment_verdict more k ≡ Ok tt
   unfolding lying
-  accepted_by k Accepted e n = e
-  accepted_by k (Refused x) e n = absurd (omega (arith, number_positive x))
+  accepted_by k (Ok tt) e n = e
+  accepted_by k (Err x) e n = absurd (omega (arith, number_positive x))
 
-  pub lies-accepted : (k : ℕ) → (lies_at first more k).number ≡ 0 → segment_verdict more k ≡ Accepted
+  pub lies-accepted : (k : ℕ) → (lies_at first more k).number ≡ 0 → segment_verdict more k ≡ Ok tt
   unfolding lies_at
   lies-accepted k n = accepted_by k (segment_verdict more k) refl n
 

@@ -1,5 +1,6 @@
 -- From what a pass over the list found to where segment k lies.
 -- The pass has counted the whole segments and knows where they end, which settles each test of the verdict in turn.
+use Rattle.std.specs.Prelude.{Ok}
 use mathlib.Core.Path.{◌≡◌, sym, ◌∙◌}
 use mathlib.Core.Bool.{true}
 use mathlib.Core.List.{List, []}
@@ -7,7 +8,6 @@ use Prim.Native.Nat.{ℕ, suc, ◌-◌, ◌<◌, ◌≤◌}
 use native.Mathlib.Omega.{arith}
 use lib.ListN.{length, get_or}
 use borrow.Author.Tests.{le-leb, lt-leb, eq-eqb, ne_eqb}
-use Rattle.rules.specs.declared.Verdict.TheVariants.{Accepted}
 use Rattle.rules.specs.declared.Refusal.TheVariants.{ListDamaged, TooManySegments, NoSuchSegment}
 use Rattle.segments.specs.Segments.{most_segments, list_bytes, segments_of, whole_list, segment_verdict, start_in, lying, lies_at, lies_by}
 use Rattle.segments.specs.Within.{Scanned}
@@ -15,7 +15,7 @@ use Rattle.segments.specs.declared.read.Part.TheVariants.{First, Listed, Nothing
 use Rattle.segments.specs.declared.read.Pass.{Pass}
 
 lying-listed : (first more : List ℕ) (k j : ℕ) → k ≡ suc j
-    → lying Accepted first more k ≡ record { number = 0; buffer = 1; start = start_in (segments_of more) j; length = length (get_or (segments_of more) j []) }
+    → lying (Ok tt) first more k ≡ record { number = 0; buffer = 1; start = start_in (segments_of more) j; length = length (get_or (segments_of more) j []) }
 unfolding lying
 lying-listed first more k j e = rw e
 
@@ -38,7 +38,7 @@ module _ (first : List ℕ) {more : List ℕ} {k : ℕ} {r : Pass} (s : Scanned 
       unfolding lies_at lying segment_verdict
       part_beyond h = rw (whole, sym s.counted, le-leb r.count most_segments few, lt-leb k r.count h)
 
-      found : k ≤ r.count → segment_verdict more k ≡ Accepted
+      found : k ≤ r.count → segment_verdict more k ≡ Ok tt
       unfolding segment_verdict
       found h = rw (whole, sym s.counted, le-leb r.count most_segments few, le-leb k r.count h)
 

@@ -1,5 +1,6 @@
 -- Both round trips, of what `pack`, `segment` and `number` promise: what was packed reads back segment by segment, and what was read packs to the same bytes.
 -- The promises lead to lists and their bytes, of which ListCodec has both trips.
+use Rattle.std.specs.Prelude.{Ok}
 use mathlib.Core.Path.{◌≡◌, sym, ap, subst, ◌∙◌}
 use mathlib.Core.List.{List, [], ◌∷◌, map}
 use Prim.Native.Nat.{ℕ, zero, suc, ◌+◌, ◌<◌, ◌≤◌}
@@ -10,11 +11,8 @@ use lib.Seq.{sets, ext_get_or}
 use borrow.Author.Tests.{le-leb, lt-leb, leb-true, leb-false}
 use Rattle.octets.specs.Runs.{Bytes}
 use Rattle.octets.proofs.RunsLaws.{take-sets_front}
-use Rattle.rules.specs.Refusals.{writing_number, writing_length, number_of}
+use Rattle.rules.specs.Refusals.{writing_number, writing_length, number_of, Writing}
 use Rattle.rules.specs.Applied.{Filled, fill, filled_by}
-use Rattle.rules.specs.declared.Writing.{Writing}
-use Rattle.rules.specs.declared.Verdict.TheVariants.{Accepted}
-use Rattle.rules.specs.declared.Writing.TheVariants.{Written}
 use Rattle.rules.specs.declared.Refusal.TheVariants.{NoSuchSegment}
 use Rattle.rules.proofs.OnceLaws.{writing_injective}
 use Rattle.rules.proofs.OutcomeLaws.{fill-accepted}
@@ -26,7 +24,7 @@ use Rattle.segments.proofs.PartLaws.{AcceptedList, list-accepted, accepted-list,
 use Rattle.segments.proofs.CutLaws.{length_cut_at, cut_sayable, in_row, cut-back, fit-back}
 use Rattle.segments.proofs.PackLaws.{AcceptedPack, pack-says, accepted-pack}
 
-number-accepted : (first list : List ℕ) (k : ℕ) → segment_verdict list k ≡ Accepted → (lies_at first list k).number ≡ 0
+number-accepted : (first list : List ℕ) (k : ℕ) → segment_verdict list k ≡ Ok tt → (lies_at first list k).number ≡ 0
 unfolding lies_at lying
 number-accepted first list zero v = rw v
 number-accepted first list (suc j) v = rw v
@@ -35,7 +33,7 @@ number-accepted first list (suc j) v = rw v
 
 -- `x` and `b` are what `pack` answered and left
 module _ (bytes lengths buffer : List ℕ) (x : Writing) (b : List ℕ) (promise : filled_by x b ≡ packed bytes lengths buffer) (ok : writing_number x ≡ 0) where
-  verdict : pack_verdict bytes lengths (length buffer) ≡ Accepted
+  verdict : pack_verdict bytes lengths (length buffer) ≡ Ok tt
   unfolding packed
   verdict = fill-accepted (pack_verdict bytes lengths (length buffer)) (list_bytes (cut_at lengths bytes)) buffer (sym (ap (λ (f : Filled). f.number) promise) ∙ ok)
 
@@ -46,14 +44,14 @@ module _ (bytes lengths buffer : List ℕ) (x : Writing) (b : List ℕ) (promise
   packed-list : take (writing_length x) b ≡ list_bytes (cut_at lengths bytes)
   unfolding packed fill
   packed-list =
-      let whole : filled_by x b ≡ fill Accepted (list_bytes (cut_at lengths bytes)) buffer = promise ∙ ap (λ v. fill v (list_bytes (cut_at lengths bytes)) buffer) verdict in
+      let whole : filled_by x b ≡ fill (Ok tt) (list_bytes (cut_at lengths bytes)) buffer = promise ∙ ap (λ v. fill v (list_bytes (cut_at lengths bytes)) buffer) verdict in
       ap (λ (f : Filled). take f.length f.buffer) whole ∙ take-sets_front buffer (list_bytes (cut_at lengths bytes)) says.holds
 
   packed-read : segments_of (take (writing_length x) b) ≡ cut_at lengths bytes
   packed-read = ap segments_of packed-list ∙ segments_packed (cut_sayable lengths bytes says.fit)
 
   -- every k up to the number of lengths is accepted, and its segment is the one that was given; the first buffer's own for 0
-  packed-accepted : (k : ℕ) → k ≤ length lengths → segment_verdict (take (writing_length x) b) k ≡ Accepted
+  packed-accepted : (k : ℕ) → k ≤ length lengths → segment_verdict (take (writing_length x) b) k ≡ Ok tt
   packed-accepted k h =
       accepted-list (take (writing_length x) b) k
       (record {
@@ -79,10 +77,10 @@ module _ (bytes lengths buffer : List ℕ) (x : Writing) (b : List ℕ) (promise
 
 -- ---- read, then packed
 
-later-accepted : (list : List ℕ) (n k : ℕ) → AcceptedList list n → k ≤ length (segments_of list) → segment_verdict list k ≡ Accepted
+later-accepted : (list : List ℕ) (n k : ℕ) → AcceptedList list n → k ≤ length (segments_of list) → segment_verdict list k ≡ Ok tt
 later-accepted list n k a h = accepted-list list k (record { whole = a.whole; few = a.few; among = h })
 
-segment-at : (first list : List ℕ) (k : ℕ) → segment_verdict list (k + 1) ≡ Accepted → segment_of first list (k + 1) ≡ get_or (segments_of list) k []
+segment-at : (first list : List ℕ) (k : ℕ) → segment_verdict list (k + 1) ≡ Ok tt → segment_of first list (k + 1) ≡ get_or (segments_of list) k []
 unfolding segment_of
 segment-at first list k v =
     let one : k + 1 ≡ suc k = omega arith in
@@ -113,12 +111,12 @@ module _ (list : List ℕ) (bytes : Bytes list) (first : List ℕ) (n : ℕ) (la
 
   -- whatever `pack` answers and leaves where there is room: the same bytes again, and those behind them as they were
   pub read-packed : (buffer : List ℕ) → length list ≤ length buffer → (x : Writing) (b : List ℕ) → filled_by x b ≡ packed (in_row ss) (map length ss) buffer
-      → (x ≡ Written (length list)) × (b ≡ sets buffer 0 list)
+      → (x ≡ Ok (length list)) × (b ≡ sets buffer 0 list)
   unfolding packed fill segments_of
   read-packed buffer room x b promise =
       let cut : cut_at (map length ss) (in_row ss) ≡ segments_of list = cut-back ss ∙ read_all in
       let same : list_bytes (cut_at (map length ss) (in_row ss)) ≡ list = ap list_bytes cut ∙ packed_segments list bytes accepted.whole in
-      let v : pack_verdict (in_row ss) (map length ss) (length buffer) ≡ Accepted =
+      let v : pack_verdict (in_row ss) (map length ss) (length buffer) ≡ Ok tt =
       accepted-pack (in_row ss) (map length ss) (length buffer)
       (record {
         fit = fit-back (subst (All Sayable) (sym read_all) (in_sayable (length list) list bytes));
@@ -126,4 +124,4 @@ module _ (list : List ℕ) (bytes : Bytes list) (first : List ℕ) (n : ℕ) (la
         holds = rw same room;
       }) in
       let w : filled_by x b ≡ record { number = 0; length = length list; buffer = sets buffer 0 list } = promise ∙ rw (v, same) in
-      (writing_injective x (Written (length list)) (ap (λ (f : Filled). f.number) w) (ap (λ (f : Filled). f.length) w), ap (λ (f : Filled). f.buffer) w)
+      (writing_injective x (Ok (length list)) (ap (λ (f : Filled). f.number) w) (ap (λ (f : Filled). f.length) w), ap (λ (f : Filled). f.buffer) w)

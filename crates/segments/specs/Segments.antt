@@ -1,13 +1,11 @@
 -- Document 02, 1/13: a text in segments. The first SIB message lies in a buffer of its own, whole; the list has the additional ones, each behind its length, back to back.
-use Rattle.std.specs.Prelude.{Bool, cond, ◌&&◌, ℕ, zero, suc, ◌+◌, eqb, leb, length, get_or, take, drop}
+use Rattle.std.specs.Prelude.{Bool, cond, ◌&&◌, ℕ, zero, suc, ◌+◌, eqb, leb, length, get_or, take, drop, Ok, Err}
 use mathlib.Core.List.{List, [], ◌∷◌, ◌++◌, flat_map}
 use Rattle.octets.specs.Numbers.{be, to_be}
 use Rattle.rules.specs.Lists.{every}
-use Rattle.rules.specs.Refusals.{number_of, refuse_unless, ◌then◌}
+use Rattle.rules.specs.Refusals.{number_of, refuse_unless, ◌then◌, Verdict}
 use Rattle.rules.specs.Applied.{Filled, fill}
 use Rattle.rules.specs.declared.Refusal.TheVariants.{ListDamaged, TooManySegments, NoSuchSegment, ShortBuffer}
-use Rattle.rules.specs.declared.Verdict.{Verdict}
-use Rattle.rules.specs.declared.Verdict.TheVariants.{Accepted, Refused}
 use Rattle.segments.specs.declared.read.Part.{Part}
 use Rattle.segments.specs.declared.read.Part.TheVariants.{First, Listed, Nothing}
 
@@ -66,8 +64,8 @@ segment_verdict more k =
 
 -- "A refusal hands back an empty part"
 abbrev unless_refused : Verdict → List ℕ → List ℕ
-unless_refused Accepted s = s
-unless_refused (Refused x) s = []
+unless_refused (Ok tt) s = s
+unless_refused (Err x) s = []
 
 -- the first buffer for k = 0, the k-th of the list otherwise
 unfoldable pub segment_of : List ℕ → List ℕ → ℕ → List ℕ
@@ -86,9 +84,9 @@ unfoldable pub start_in : List (List ℕ) → ℕ → ℕ
 start_in ss j = length (list_bytes (take j ss)) + length_size
 
 unfoldable pub lying : Verdict → List ℕ → List ℕ → ℕ → Lies
-lying (Refused x) first more k = record { number = number_of x; buffer = 0; start = 0; length = 0 }
-lying Accepted first more zero = record { number = 0; buffer = 0; start = 0; length = length first }
-lying Accepted first more (suc j) =
+lying (Err x) first more k = record { number = number_of x; buffer = 0; start = 0; length = 0 }
+lying (Ok tt) first more zero = record { number = 0; buffer = 0; start = 0; length = length first }
+lying (Ok tt) first more (suc j) =
     record { number = 0; buffer = 1; start = start_in (segments_of more) j; length = length (get_or (segments_of more) j []) }
 
 unfoldable pub lies_at : List ℕ → List ℕ → ℕ → Lies

@@ -7,7 +7,7 @@ ghost use Rattle.segments.specs.Within.{ToPack};
 
 use crate::{LENGTH, LONGEST_SEGMENT, MOST_SEGMENTS};
 use octets::{copy, put16};
-use rules::{Refusal, Verdict, Writing};
+use rules::Refusal;
 
 // Whether the lengths add up to so many bytes, and none is too long. What is left is counted down, so that no sum can overflow.
 fn lengths_fit(lengths: &[u64], bytes: usize) -> bool
@@ -30,19 +30,19 @@ fn lengths_fit(lengths: &[u64], bytes: usize) -> bool
 }
 
 // The first of the refusals 10, 11 and 8 that applies.
-fn verdict(bytes: &[u8], lengths: &[u64], room: usize) -> Verdict
+fn verdict(bytes: &[u8], lengths: &[u64], room: usize) -> Result<(), Refusal>
     ensures { result ≡ pack_verdict bytes.now lengths.now room }
 {
     if !lengths_fit(lengths, bytes.len()) {
-        return Verdict::Refused(Refusal::ListDamaged);
+        return Err(Refusal::ListDamaged);
     }
     if MOST_SEGMENTS < lengths.len() {
-        return Verdict::Refused(Refusal::TooManySegments);
+        return Err(Refusal::TooManySegments);
     }
     if room < LENGTH * lengths.len() + bytes.len() {
-        return Verdict::Refused(Refusal::ShortBuffer);
+        return Err(Refusal::ShortBuffer);
     }
-    Verdict::Accepted
+    Ok(())
 }
 
 // A segment behind its length, at an index of the list.
@@ -74,14 +74,10 @@ fn put_segments(bytes: &[u8], lengths: &[u64], list: &mut [u8])
 }
 
 // The list at the start of the buffer; bytes behind it stay. A refusal writes nothing.
-pub fn pack(bytes: &[u8], lengths: &[u64], list: &mut [u8]) -> Writing
+pub fn pack(bytes: &[u8], lengths: &[u64], list: &mut [u8]) -> Result<usize, Refusal>
     ensures { filled_by result list.new ≡ packed bytes.now lengths.now list.old }
 {
-    match verdict(bytes, lengths, list.len()) {
-        Verdict::Accepted => {
-            put_segments(bytes, lengths, list);
-            Writing::Written(LENGTH * lengths.len() + bytes.len())
-        }
-        Verdict::Refused(refusal) => Writing::Unwritten(refusal),
-    }
+    verdict(bytes, lengths, list.len())?;
+    put_segments(bytes, lengths, list);
+    Ok(LENGTH * lengths.len() + bytes.len())
 }

@@ -1,5 +1,6 @@
 -- The builder's answers are `built`: 9, then 8, then the empty table of the heads, whole.
 -- What the code learnt, l of the heads and the room, settles the verdict; the bytes of an empty cell are its head's and zeros, since a legal head is read and written back.
+use Rattle.std.specs.Prelude.{Ok, Err}
 use mathlib.Core.Path.{◌≡◌, sym, ◌∙◌}
 use mathlib.Core.Bool.{Bool, true, false, not}
 use mathlib.Core.List.{List, map, flat_map}
@@ -17,7 +18,6 @@ use Rattle.rules.specs.Table.{Cell, legal_head, header_bytes, places_bytes, cell
 use Rattle.rules.specs.Refusals.{head_count, head_runs, legal_heads, build_verdict}
 use Rattle.rules.specs.Applied.{filled_by, fill, empty_cell, built}
 use Rattle.rules.specs.declared.Refusal.TheVariants.{ShortBuffer, BadHeads}
-use Rattle.rules.specs.declared.Writing.TheVariants.{Written, Unwritten}
 use Rattle.rules.proofs.MapLaws.{flat_map-map}
 use Rattle.rules.proofs.AllLaws.{all_every, all_imply, all_both, all_pieces, flat_map_all}
 use Rattle.rules.proofs.HeadCodec.{head-back}
@@ -64,7 +64,7 @@ module _ (heads : List ℕ) (l : Bool) (el : l ≡ legal_heads heads) (right : n
   heads-few = (legal-heads heads found).few
 
 module _ (heads t : List ℕ) (l : Bool) (el : l ≡ legal_heads heads) where
-  pub heads_bad : not l ≡ true → filled_by (Unwritten BadHeads) t ≡ built heads t
+  pub heads_bad : not l ≡ true → filled_by (Err BadHeads) t ≡ built heads t
   unfolding built build_verdict fill
   heads_bad e = rw (← el, not-true l e)
 
@@ -72,12 +72,12 @@ module _ (heads t : List ℕ) (l : Bool) (el : l ≡ legal_heads heads) where
     legal : legal_heads heads ≡ true
     legal = found heads l el right
 
-    pub buffer-short : length t < header_size + cell_size current * head_count heads → filled_by (Unwritten ShortBuffer) t ≡ built heads t
+    pub buffer-short : length t < header_size + cell_size current * head_count heads → filled_by (Err ShortBuffer) t ≡ built heads t
     unfolding built build_verdict fill
     buffer-short h = rw (legal, lt-leb (header_size + cell_size current * head_count heads) (length t) h)
 
     pub table-built : Bytes heads → header_size + cell_size current * head_count heads ≤ length t → {a b : List ℕ} → a ≡ sets t 0 (header_bytes current (head_count heads))
-        → b ≡ sets a header_size (flat_map empty_run (head_runs heads)) → filled_by (Written (header_size + cell_size current * head_count heads)) b ≡ built heads t
+        → b ≡ sets a header_size (flat_map empty_run (head_runs heads)) → filled_by (Ok (header_size + cell_size current * head_count heads)) b ≡ built heads t
     unfolding built build_verdict fill
     table-built bytes room p q =
         let made = cells heads bytes legal in

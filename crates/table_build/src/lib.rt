@@ -14,24 +14,24 @@ ghost use Rattle.table_build.specs.Build.{empty_run};
 
 use octets::{BYTES_64, get64, put64};
 use rules::layout::{CELL, HEAD, HEADER, MOST_CELLS, PLACES, TABLE_MARK, TABLE_VERSION, ZEROS_AT};
-use rules::{CellIdentity, Refusal, Writing};
+use rules::{CellIdentity, Refusal};
 use table_judge::{head_legal, identity_at};
 
 // Any heads, any buffer: refusal 9, then 8; else the header, then each head with free places behind it. Bytes beyond stay.
-pub fn build(heads: &[u8], table: &mut [u8]) -> Writing
+pub fn build(heads: &[u8], table: &mut [u8]) -> Result<usize, Refusal>
     ensures { filled_by result table.new ≡ built heads.now table.old }
 {
     if !heads_legal(heads) {
-        return Writing::Unwritten(Refusal::BadHeads);
+        return Err(Refusal::BadHeads);
     }
     let count = heads.len() / HEAD;
     let length = HEADER + CELL * count;
     if table.len() < length {
-        return Writing::Unwritten(Refusal::ShortBuffer);
+        return Err(Refusal::ShortBuffer);
     }
     put_header(table, count);
     put_cells(table, heads, count);
-    Writing::Written(length)
+    Ok(length)
 }
 
 // Whole heads, 1 to 512, each legal, in order.

@@ -1,5 +1,6 @@
 -- The converter's answers are `conversion`: 1 and 2 by the older version's rules, then 8, then the same cells in the current layout, whole.
 -- An older table is one of version 1, and the bytes of its cells are the widened ones, behind a header of the current version.
+use Rattle.std.specs.Prelude.{Ok, Err}
 use mathlib.Core.Path.{◌≡◌, sym, ◌∙◌}
 use mathlib.Core.List.{List, ◌++◌, flat_map}
 use Prim.Native.Nat.{ℕ, ◌+◌, ◌-◌, ◌*◌, ◌≤◌, ◌<◌}
@@ -18,8 +19,6 @@ use Rattle.rules.specs.Refusals.{table_verdict, older_verdict}
 use Rattle.rules.specs.Applied.{filled_by, fill, converted, conversion}
 use Rattle.rules.specs.declared.Refusal.{Refusal}
 use Rattle.rules.specs.declared.Refusal.TheVariants.{ShortBuffer}
-use Rattle.rules.specs.declared.Verdict.TheVariants.{Accepted, Refused}
-use Rattle.rules.specs.declared.Writing.TheVariants.{Written, Unwritten}
 use Rattle.rules.proofs.MapLaws.{flat_map-map}
 use Rattle.rules.proofs.AllLaws.{all_imply, flat_map_all}
 use Rattle.rules.proofs.VerdictLaws.{convert_chain}
@@ -32,12 +31,12 @@ use Rattle.table_convert.specs.Wide.{wide_cell}
 use Rattle.table_convert.proofs.WideCellLaws.{wide-bytes}
 
 -- refused by the older version's rules
-pub old-refused : (old t : List ℕ) {x : Refusal} → Refused x ≡ older_verdict old → filled_by (Unwritten x) t ≡ conversion old t
+pub old-refused : (old t : List ℕ) {x : Refusal} → Err x ≡ older_verdict old → filled_by (Err x) t ≡ conversion old t
 unfolding conversion fill
 old-refused old t e = rw (convert_chain old (length t), ← e)
 
-module _ (old : List ℕ) (accepted : older_verdict old ≡ Accepted) where
-  one : table_verdict version1 old ≡ Accepted
+module _ (old : List ℕ) (accepted : older_verdict old ≡ Ok tt) where
+  one : table_verdict version1 old ≡ Ok tt
   one = sym (older-verdict old) ∙ accepted
 
   pub old-size : length old ≡ header_size + cell_size version1 * cell_count old
@@ -51,7 +50,7 @@ module _ (old : List ℕ) (accepted : older_verdict old ≡ Accepted) where
   unfolding offset
   old-count e = e ∙ sym (field_at header_fields cells_in_header old (omega (arith, old-size)))
 
-  pub room-short : (t : List ℕ) {n : ℕ} → n ≡ be (gets old 5 2) → length t < header_size + cell_size current * n → filled_by (Unwritten ShortBuffer) t ≡ conversion old t
+  pub room-short : (t : List ℕ) {n : ℕ} → n ≡ be (gets old 5 2) → length t < header_size + cell_size current * n → filled_by (Err ShortBuffer) t ≡ conversion old t
   unfolding conversion fill
   room-short t e h = rw (convert_chain old (length t), accepted, lt-leb (header_size + cell_size current * cell_count old) (length t) (rw (old-count e) at h))
 
@@ -68,7 +67,7 @@ module _ (old : List ℕ) (accepted : older_verdict old ≡ Accepted) where
 
   pub table-converted : Bytes old → (t : List ℕ) {n : ℕ} → n ≡ be (gets old 5 2) → header_size + cell_size current * n ≤ length t
       → {a b : List ℕ} → a ≡ sets t 0 (header_bytes current n) → b ≡ sets a header_size (flat_map wide_cell (pieces (cell_size version1) n (take (length old - header_size) (drop header_size old))))
-      → filled_by (Written (header_size + cell_size current * n)) b ≡ conversion old t
+      → filled_by (Ok (header_size + cell_size current * n)) b ≡ conversion old t
   unfolding conversion fill
   table-converted bytes t e room p q =
       let c = old-count e in

@@ -12,24 +12,24 @@ use octets::get16;
 use rules::layout::{
     CELL_1, CELLS_AT, HEAD, HEADER, LONGEST_PERIOD_1, PERIOD_AT, PLACE, PLACE_1, PLACES, VERSION_1,
 };
-use rules::{CellIdentity, Refusal, Verdict};
+use rules::{CellIdentity, Refusal};
 use table_judge::{head_legal, header_legal, identity_at, marked, places_legal};
 
 // Any bytes: accepted, or refusal 1 if they are no table of an older version, or 2 by that version's rules.
-pub fn verdict(old: &[u8]) -> Verdict
+pub fn verdict(old: &[u8]) -> Result<(), Refusal>
     ensures { result ≡ older_verdict old.now }
 {
     if !marked(old, VERSION_1) {
-        return Verdict::Refused(Refusal::TableMark);
+        return Err(Refusal::TableMark);
     }
     if !header_legal(old, CELL_1) {
-        return Verdict::Refused(Refusal::TableWrong);
+        return Err(Refusal::TableWrong);
     }
     let count = get16(old, CELLS_AT) as usize;
     if !old_cells_legal(&old[HEADER..], count) {
-        return Verdict::Refused(Refusal::TableWrong);
+        return Err(Refusal::TableWrong);
     }
-    Verdict::Accepted
+    Ok(())
 }
 
 // `least` is the least NR CGI that may follow; `wide` is where the places of each cell are widened.

@@ -4,13 +4,12 @@
 mod judge;
 mod wide;
 
-ghost use Rattle.std.specs.Prelude.{◌≡◌, ◌+◌, ◌*◌, ◌≤◌, length};
+ghost use Rattle.std.specs.Prelude.{◌≡◌, ◌+◌, ◌*◌, ◌≤◌, length, Ok};
 ghost use mathlib.Core.List.{flat_map};
 ghost use Rattle.std.proofs.lemmas.List.Edits.{sets};
 ghost use Rattle.octets.specs.Runs.{pieces};
 ghost use Rattle.rules.specs.Layout.{version1, current, header_size, cell_size};
 ghost use Rattle.rules.specs.Refusals.{older_verdict};
-ghost use Rattle.rules.specs.declared.Verdict.TheVariants.{Accepted};
 ghost use Rattle.rules.specs.Applied.{filled_by, conversion};
 ghost use Rattle.table_convert.specs.Wide.{wide_cell};
 
@@ -18,32 +17,30 @@ use crate::judge::verdict;
 use crate::wide::widen;
 use octets::get16;
 use rules::layout::{CELL, CELL_1, CELLS_AT, HEADER};
-use rules::{Refusal, Verdict, Writing};
+use rules::Refusal;
 use table_build::put_header;
 
 // Any bytes, any buffer: refusals 1 and 2 of a table of an older version, then 8; else the same cells in the current layout. Bytes beyond stay.
-pub fn convert(old: &[u8], table: &mut [u8]) -> Writing
+pub fn convert(old: &[u8], table: &mut [u8]) -> Result<usize, Refusal>
     ensures { filled_by result table.new ≡ conversion old.now table.old }
 {
-    match verdict(old) {
-        Verdict::Accepted => converted(old, table),
-        Verdict::Refused(refusal) => Writing::Unwritten(refusal),
-    }
+    verdict(old)?;
+    converted(old, table)
 }
 
 // The buffer's length is asked before anything is written.
-fn converted(old: &[u8], table: &mut [u8]) -> Writing
-    requires { older_verdict old.now ≡ Accepted }
+fn converted(old: &[u8], table: &mut [u8]) -> Result<usize, Refusal>
+    requires { older_verdict old.now ≡ Ok tt }
     ensures { filled_by result table.new ≡ conversion old.now table.old }
 {
     let count = get16(old, CELLS_AT) as usize;
     let length = HEADER + CELL * count;
     if table.len() < length {
-        return Writing::Unwritten(Refusal::ShortBuffer);
+        return Err(Refusal::ShortBuffer);
     }
     put_header(table, count);
     put_cells(table, &old[HEADER..], count);
-    Writing::Written(length)
+    Ok(length)
 }
 
 fn put_cells(table: &mut [u8], cells: &[u8], count: usize)

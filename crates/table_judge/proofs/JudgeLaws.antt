@@ -1,5 +1,6 @@
 -- The judge's tests in order are `table_verdict`: a table is legal if its header is and its cells are, each test being asked only where those before were passed.
 -- What the code learnt, m of the mark, h of the header and r of the cells, settles each conjunction in turn.
+use Rattle.std.specs.Prelude.{Ok, Err}
 use mathlib.Core.Path.{◌≡◌, sym, ◌∙◌}
 use mathlib.Core.Bool.{Bool, true, false, not, ◌&&◌, and_assoc, and-false}
 use mathlib.Core.List.{List}
@@ -16,7 +17,6 @@ use Rattle.rules.specs.Layout.{Version, version_number, cells_in_header, places_
 use Rattle.rules.specs.Table.{cell_count, cell_runs, legal_cell, table_marked, legal_table}
 use Rattle.rules.specs.Refusals.{table_verdict}
 use Rattle.rules.specs.declared.Refusal.TheVariants.{TableMark, TableWrong}
-use Rattle.rules.specs.declared.Verdict.TheVariants.{Accepted, Refused}
 use Rattle.rules.proofs.TestLaws.{both}
 use Rattle.table_judge.specs.Judge.{legal_header, legal_runs}
 use Rattle.table_judge.proofs.PiecesLaws.{take_rest}
@@ -52,16 +52,16 @@ module _ (v : Version) where
     table-size n en = rw (count n en) (header-size t header)
 
   module _ (t : List ℕ) (m : Bool) (em : m ≡ table_marked (version_number v) t) where
-    pub unmarked : not m ≡ true → Refused TableMark ≡ table_verdict v t
+    pub unmarked : not m ≡ true → Err TableMark ≡ table_verdict v t
     unfolding table_verdict
     unmarked e = rw (← em, not-true m e)
 
     module _ (marked : not m ≡ false) (h : Bool) (eh : h ≡ legal_header (cell_size v) t) where
-      refused : legal_table v t ≡ false → Refused TableWrong ≡ table_verdict v t
+      refused : legal_table v t ≡ false → Err TableWrong ≡ table_verdict v t
       unfolding table_verdict
       refused e = rw (← em, not-false m marked, e)
 
-      pub header-wrong : not h ≡ true → Refused TableWrong ≡ table_verdict v t
+      pub header-wrong : not h ≡ true → Err TableWrong ≡ table_verdict v t
       header-wrong e = refused (table_parts t ∙ rw (← eh, not-true h e))
 
       module _ (right : not h ≡ false) (n : ℕ) (en : n ≡ be (gets t 5 2))
@@ -69,9 +69,9 @@ module _ (v : Version) where
         cells : r ≡ legal_runs v (legal_cell v) (cell_runs v t)
         cells = er ∙ rw (take_rest, count t h eh right n en)
 
-        pub cells-wrong : not r ≡ true → Refused TableWrong ≡ table_verdict v t
+        pub cells-wrong : not r ≡ true → Err TableWrong ≡ table_verdict v t
         cells-wrong e = refused (table_parts t ∙ rw (← cells, not-true r e, and-false))
 
-        pub table_right : not r ≡ false → Accepted ≡ table_verdict v t
+        pub table_right : not r ≡ false → (Ok tt) ≡ table_verdict v t
         unfolding table_verdict
         table_right e = rw (← em, not-false m marked, table_parts t, header t h eh right, ← cells, not-false r e)

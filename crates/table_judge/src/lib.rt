@@ -18,7 +18,7 @@ use rules::layout::{
     PLACES, PLACES_AT, REQUESTED_AT, SENT_AT, SIB_AT, TABLE_MARK, TABLE_VERSION, VERSION_AT,
     WAIT_AT, ZEROS_AT,
 };
-use rules::{Broadcasts, CellIdentity, Place, Refusal, Seconds, Verdict};
+use rules::{Broadcasts, CellIdentity, Place, Refusal, Seconds};
 
 // Where areas stand in a head, and the four bytes that end with the last of them.
 const SECOND_AREA_AT: usize = AREAS_AT + AREA;
@@ -31,20 +31,20 @@ const LAST_FOUR_AT: usize = HEAD - BYTES_32;
 const NO_TEXT: u64 = 1 << 32;
 
 // Any bytes: accepted, or document 01's refusal 1 or 2.
-pub fn verdict(table: &[u8]) -> Verdict
+pub fn verdict(table: &[u8]) -> Result<(), Refusal>
     ensures { result ≡ table_verdict current table.now }
 {
     if !marked(table, TABLE_VERSION) {
-        return Verdict::Refused(Refusal::TableMark);
+        return Err(Refusal::TableMark);
     }
     if !header_legal(table, CELL) {
-        return Verdict::Refused(Refusal::TableWrong);
+        return Err(Refusal::TableWrong);
     }
     let count = get16(table, CELLS_AT) as usize;
     if !cells_legal(&table[HEADER..], count) {
-        return Verdict::Refused(Refusal::TableWrong);
+        return Err(Refusal::TableWrong);
     }
-    Verdict::Accepted
+    Ok(())
 }
 
 // Shorter than its mark and version, a table has neither. The version's upper byte is zero: it is read with the mark.

@@ -1,5 +1,6 @@
 -- The record of a message is legal: its fields fit and the writer's tests 4, 5 and 6 hold of what is sound, so that 7 and 8 alone are left.
 -- By the two flags, and by whether there are cells; what the writer takes is then read back by the laws of records.
+use Rattle.std.specs.Prelude.{Ok}
 use mathlib.Core.Path.{◌≡◌, refl, sym, ◌∙◌}
 use mathlib.Core.Bool.{Bool, true, false, cond, not}
 use mathlib.Core.List.{List, [], ◌∷◌}
@@ -17,7 +18,6 @@ use Rattle.rules.specs.Refusals.{test, first_of, cancels_some, fits_in, record_v
 use Rattle.rules.specs.Applied.{reading, read_of}
 use Rattle.rules.specs.Sound.{fits, fit_request}
 use Rattle.rules.specs.declared.Refusal.TheVariants.{CancelsNothing, ShortBuffer}
-use Rattle.rules.specs.declared.Verdict.TheVariants.{Accepted}
 use Rattle.rules.proofs.AllLaws.{All, none, more}
 use Rattle.rules.proofs.VerdictLaws.{all_held}
 use Rattle.rules.proofs.AcceptedRecordLaws.{accepted-record}
@@ -117,13 +117,13 @@ module _ (c : Said) (s : SoundSaid CancelRequest c) where
   unfolding write_verdict
   write-left room = rw (le-leb (length (named c)) most_items few, kind_allows_lem, area_right, limits_kept)
 
-  record-reads : (room : ℕ) → write_verdict (cancel_request c) (named c) room ≡ Accepted
+  record-reads : (room : ℕ) → write_verdict (cancel_request c) (named c) room ≡ Ok tt
       → (read_of (record_of c) ≡ record { number = 0; request = cancel_request c; items = length (named c) }) × (items_of (record_of c) ≡ named c)
   unfolding read_of reading record_of
   record-reads room e =
       let q = cancel_request c in
       let a = writing_accepted q (named c) room e in
-      let v : record_verdict current (record_bytes q (named c)) ≡ Accepted =
+      let v : record_verdict current (record_bytes q (named c)) ≡ Ok tt =
       accepted-record current (record_bytes q (named c)) (record-written q (named c) request-fits few a.request) in
       let r = request-read q (named c) request-fits few a.request in
       (rw (v, r.0, r.1), items-read q (named c) request-fits few a.request)
@@ -131,13 +131,13 @@ module _ (c : Said) (s : SoundSaid CancelRequest c) where
 -- ---- a message
 
 -- 13 to 16 are passed
-message_passed : (b : List ℕ) (room : ℕ) → cancel_verdict b room ≡ Accepted → message_verdict CancelRequest b ≡ Accepted
+message_passed : (b : List ℕ) (room : ℕ) → cancel_verdict b room ≡ Ok tt → message_verdict CancelRequest b ≡ Ok tt
 unfolding cancel_verdict message_verdict
 message_passed b room e =
     let h = all_held (cancel_tests b room) e in
     rw (h.0, h.1.0, h.1.1.0, h.1.1.1.0)
 
-message-left : (b : List ℕ) (room : ℕ) → message_verdict CancelRequest b ≡ Accepted
+message-left : (b : List ℕ) (room : ℕ) → message_verdict CancelRequest b ≡ Ok tt
     → cancel_verdict b room ≡ first_of (test (cancels_some (cancel_request (said_in CancelRequest b))) CancelsNothing ∷ test (fits_in (record_room (said_in CancelRequest b)) room) ShortBuffer ∷ [])
 unfolding cancel_verdict message_verdict
 message-left b room e =
@@ -145,10 +145,10 @@ message-left b room e =
     rw (h.0, h.1.0, h.1.1.0, h.1.1.1.0)
 
 -- the reader's verdict is then the writer's
-pub same-verdict : (b : List ℕ) (room : ℕ) → Bytes b → message_verdict CancelRequest b ≡ Accepted → cancel_verdict b room ≡ write_verdict (cancel_request (said_in CancelRequest b)) (named (said_in CancelRequest b)) room
+pub same-verdict : (b : List ℕ) (room : ℕ) → Bytes b → message_verdict CancelRequest b ≡ Ok tt → cancel_verdict b room ≡ write_verdict (cancel_request (said_in CancelRequest b)) (named (said_in CancelRequest b)) room
 same-verdict b room bytes e = message-left b room e ∙ sym (write-left (said_in CancelRequest b) (message-sound CancelRequest b bytes) room)
 
-pub message-reads : (b : List ℕ) (room : ℕ) → Bytes b → cancel_verdict b room ≡ Accepted
+pub message-reads : (b : List ℕ) (room : ℕ) → Bytes b → cancel_verdict b room ≡ Ok tt
     → (read_of (record_of (said_in CancelRequest b)) ≡ record { number = 0; request = cancel_request (said_in CancelRequest b); items = length (named (said_in CancelRequest b)) })
     × (items_of (record_of (said_in CancelRequest b)) ≡ named (said_in CancelRequest b))
 message-reads b room bytes e =

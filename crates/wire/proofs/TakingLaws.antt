@@ -1,15 +1,12 @@
 -- What a reader's answer says of all that it leaves: it is one answer and one buffer, and where a buffer was filled by a verdict it says what the definition of
 -- reading says of that verdict.
+use Rattle.std.specs.Prelude.{Ok, Err}
 use mathlib.Core.Path.{◌≡◌, ap}
 use mathlib.Core.List.{List}
 use Prim.Native.Nat.{ℕ}
 use native.Mathlib.Omega.{arith}
-use Rattle.rules.specs.Refusals.{number_of}
+use Rattle.rules.specs.Refusals.{number_of, Verdict, Writing}
 use Rattle.rules.specs.Applied.{Filled, fill, filled_by}
-use Rattle.rules.specs.declared.Verdict.{Verdict}
-use Rattle.rules.specs.declared.Verdict.TheVariants.{Accepted, Refused}
-use Rattle.rules.specs.declared.Writing.{Writing}
-use Rattle.rules.specs.declared.Writing.TheVariants.{Written, Unwritten}
 use Rattle.rules.proofs.OutcomeLaws.{number_positive}
 use Rattle.rules.proofs.OnceLaws.{number_injective}
 use Rattle.wire.specs.MessageOutcome.{MessageOutcome, transaction_by, with_transaction, taken_by}
@@ -40,17 +37,17 @@ left_settled (Untaken x) (Untaken y) a b e = ap (λ (o : MessageOutcome). o.buff
 -- ---- by what was written or was not
 
 abbrev pub taking : Writing → ℕ → Taking
-taking (Written n) t = Taken t n
-taking (Unwritten x) t = Untaken x
+taking (Ok n) t = Taken t n
+taking (Err x) t = Untaken x
 
 pub taking_outcome : (v : Verdict) (bs before : List ℕ) (t : ℕ) (w : Writing) (buffer : List ℕ) → filled_by w buffer ≡ fill v bs before
     → taken_by (taking w t) buffer ≡ with_transaction (fill v bs before) (transaction_by v t)
 unfolding fill
-taking_outcome Accepted bs before t (Written n) buffer e = ap (λ (f : Filled). with_transaction f t) e
-taking_outcome Accepted bs before t (Unwritten x) buffer e =
+taking_outcome (Ok tt) bs before t (Ok n) buffer e = ap (λ (f : Filled). with_transaction f t) e
+taking_outcome (Ok tt) bs before t (Err x) buffer e =
     let z : number_of x ≡ 0 = ap (λ (f : Filled). f.number) e in
     absurd (omega (arith, number_positive x))
-taking_outcome (Refused x) bs before t (Written n) buffer e =
+taking_outcome (Err x) bs before t (Ok n) buffer e =
     let z : 0 ≡ number_of x = ap (λ (f : Filled). f.number) e in
     absurd (omega (arith, number_positive x))
-taking_outcome (Refused x) bs before t (Unwritten y) buffer e = ap (λ (f : Filled). with_transaction f 0) e
+taking_outcome (Err x) bs before t (Err y) buffer e = ap (λ (f : Filled). with_transaction f 0) e

@@ -3,11 +3,10 @@ use Rattle.std.specs.Prelude.{Bool, cond, List, [], ◌∷◌, ◌++◌, ℕ, �
 use Rattle.rules.specs.Layout.{current, record_size, item_size}
 use Rattle.rules.specs.Record.{cancel_or_kill, no_area, cell_area, record_bytes}
 use Rattle.rules.specs.Reply.{identities}
-use Rattle.rules.specs.Refusals.{Test, test, first_of, cancels_some, fits_in}
+use Rattle.rules.specs.Refusals.{Test, test, first_of, cancels_some, fits_in, Verdict}
 use Rattle.rules.specs.Applied.{fill}
 use Rattle.rules.specs.declared.Request.{Request}
 use Rattle.rules.specs.declared.Refusal.TheVariants.{CancelsNothing, ShortBuffer}
-use Rattle.rules.specs.declared.Verdict.{Verdict}
 use Rattle.wire.specs.MessageRefusals.{message_tests}
 use Rattle.wire.specs.MessageSaid.{Said, said_in}
 use Rattle.wire.specs.MessageOutcome.{MessageOutcome, transaction_by, with_transaction}

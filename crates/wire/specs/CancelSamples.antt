@@ -1,8 +1,7 @@
 -- Messages as bytes written out by hand: what is read in them, and why others are refused.
-use Rattle.std.specs.Prelude.{◌≡◌, true, List, [], ◌∷◌, ◌++◌, ℕ, suc, zero, ◌+◌, ◌*◌, ◌^◌}
+use Rattle.std.specs.Prelude.{◌≡◌, true, List, [], ◌∷◌, ◌++◌, ℕ, suc, zero, ◌+◌, ◌*◌, ◌^◌, Ok}
 use Rattle.rules.specs.Reply.{Row}
 use Rattle.rules.specs.Refusals.{verdict_number}
-use Rattle.rules.specs.declared.Verdict.TheVariants.{Accepted}
 use Rattle.formats.specs.Format.{found}
 use Rattle.aper.specs.Elements.{Element}
 use Rattle.wire.specs.Frame.{Frame}
@@ -128,7 +127,7 @@ counted_record =
     ∷ 0x00 ∷ 0x0f ∷ 0x11 ∷ 0x00 ∷ 0x00 ∷ 0x00 ∷ 0x00 ∷ 0x10 ∷ 0x00 ∷ 0x0f ∷ 0x11 ∷ 0x00 ∷ 0x00 ∷ 0x00 ∷ 0x00 ∷ 0x20 ∷ []
 
 abbrev pub Reads : List ℕ → Elements → Type 0
-Reads b t = ((tree.message CancelRequest).parse b ≡ found (whole t) []) × ((tree.message CancelRequest).encode (whole t) ≡ b) × (cancel_verdict b 4122 ≡ Accepted)
+Reads b t = ((tree.message CancelRequest).parse b ≡ found (whole t) []) × ((tree.message CancelRequest).encode (whole t) ≡ b) × (cancel_verdict b 4122 ≡ Ok tt)
 
 -- a cell of a list without counts
 abbrev uncounted : ℕ → Row

@@ -1,10 +1,8 @@
 -- What reading a message leaves, whole.
-use Rattle.std.specs.Prelude.{List, ℕ}
-use Rattle.rules.specs.Refusals.{number_of}
+use Rattle.std.specs.Prelude.{List, ℕ, Ok, Err}
+use Rattle.rules.specs.Refusals.{number_of, Verdict}
 use Rattle.rules.specs.Applied.{Filled}
 use Rattle.rules.specs.declared.Refusal.{Refusal}
-use Rattle.rules.specs.declared.Verdict.{Verdict}
-use Rattle.rules.specs.declared.Verdict.TheVariants.{Accepted, Refused}
 use Rattle.wire.specs.declared.Taking.{Taking}
 use Rattle.wire.specs.declared.Taking.TheVariants.{Taken, Untaken}
 
@@ -16,8 +14,8 @@ pub record MessageOutcome : Type 0 where
   pub buffer : List ℕ
 
 abbrev pub transaction_by : Verdict → ℕ → ℕ
-transaction_by Accepted t = t
-transaction_by (Refused x) t = 0
+transaction_by (Ok tt) t = t
+transaction_by (Err x) t = 0
 
 abbrev pub with_transaction : Filled → ℕ → MessageOutcome
 with_transaction f t = record { number = f.number; transaction = t; length = f.length; buffer = f.buffer }

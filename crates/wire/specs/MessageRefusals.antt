@@ -1,9 +1,8 @@
 -- What a message is refused for: 13 to 16, each a test over the tree, the lowest over the whole message.
 use Rattle.std.specs.Prelude.{Bool, true, false, cond, not, ◌&&◌, ◌||◌, List, [], ◌∷◌, map, ℕ, eqb}
 use Rattle.rules.specs.Lists.{any, every, those, one_of, above}
-use Rattle.rules.specs.Refusals.{Test, test, first_of}
+use Rattle.rules.specs.Refusals.{Test, test, first_of, Verdict}
 use Rattle.rules.specs.declared.Refusal.TheVariants.{BadEncoding, OtherMessage, UnknownElement, ElementsWrong}
-use Rattle.rules.specs.declared.Verdict.{Verdict}
 use Rattle.formats.specs.Format.{Found, nothing, found}
 use Rattle.aper.specs.Elements.{Element, marked}
 use Rattle.wire.specs.Frame.{Frame, outer}

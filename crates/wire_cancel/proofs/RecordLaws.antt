@@ -1,4 +1,5 @@
 -- The record of what a message says: which list lies in its bytes, which request it makes, and what is written for it, by the two tests.
+use Rattle.std.specs.Prelude.{Ok, Err}
 use mathlib.Core.Path.{◌≡◌, refl, ap}
 use mathlib.Core.Bool.{Bool, true, false, not, ◌&&◌, ◌||◌}
 use mathlib.Core.List.{List, [], ◌∷◌, flat_map}
@@ -17,7 +18,6 @@ use Rattle.rules.specs.Refusals.{cancels_some}
 use Rattle.rules.specs.Applied.{fill, filled_by}
 use Rattle.rules.specs.declared.Refusal.TheVariants.{CancelsNothing, ShortBuffer}
 use Rattle.rules.specs.declared.Request.{Request}
-use Rattle.rules.specs.declared.Writing.TheVariants.{Written, Unwritten}
 use Rattle.record_write.proofs.WriteLaws.{bytes-size, one_store}
 use Rattle.wire.specs.MessageSaid.{Said}
 use Rattle.wire.specs.declared.Message.TheVariants.{CancelRequest}
@@ -58,18 +58,18 @@ module _ (l : List ℕ) (s : Seen) where
 -- ---- what is written
 
 module _ (c : Said) (buffer : List ℕ) where
-  pub none_put : cancels_some (cancel_request c) ≡ false → filled_by (Unwritten CancelsNothing) buffer ≡ recorded c buffer
+  pub none_put : cancels_some (cancel_request c) ≡ false → filled_by (Err CancelsNothing) buffer ≡ recorded c buffer
   unfolding recorded fill
   none_put t = rw t
 
   module _ (some : cancels_some (cancel_request c) ≡ true) where
-    pub short_put : length buffer < record_room c → filled_by (Unwritten ShortBuffer) buffer ≡ recorded c buffer
+    pub short_put : length buffer < record_room c → filled_by (Err ShortBuffer) buffer ≡ recorded c buffer
     unfolding recorded fill
     short_put h = rw (some, lt-leb (record_room c) (length buffer) h)
 
     pub record_put : record_room c ≤ length buffer → {n : ℕ} {q : Request} {a b : List ℕ} → n ≡ length (named c) → q ≡ cancel_request c
         → a ≡ sets buffer 0 (bytes_of record_fields (request_numbers q n)) → b ≡ sets a record_size (flat_map (to_be (item_size current)) (named c))
-        → filled_by (Written (record_size + item_size current * n)) b ≡ recorded c buffer
+        → filled_by (Ok (record_size + item_size current * n)) b ≡ recorded c buffer
     unfolding recorded fill record_of
     record_put h e q p₁ p₂ =
         rw (some, le-leb (record_room c) (length buffer) h, p₂, p₁, q, e, one_store (cancel_request c) (named c) buffer, bytes-size (cancel_request c) (named c))

@@ -1,14 +1,12 @@
 -- What reading a message leaves, by its verdict: the message's own tests come first, and of a fit one the record decides.
+use Rattle.std.specs.Prelude.{Err}
 use mathlib.Core.Path.{◌≡◌, ap, ◌∙◌}
 use mathlib.Core.List.{List}
 use Prim.Native.Nat.{ℕ}
 use lib.ListN.{length}
-use Rattle.rules.specs.Refusals.{◌then◌, first_of}
+use Rattle.rules.specs.Refusals.{◌then◌, first_of, Verdict, Writing}
 use Rattle.rules.specs.Applied.{fill, filled_by}
 use Rattle.rules.specs.declared.Refusal.{Refusal}
-use Rattle.rules.specs.declared.Verdict.{Verdict}
-use Rattle.rules.specs.declared.Verdict.TheVariants.{Refused}
-use Rattle.rules.specs.declared.Writing.{Writing}
 use Rattle.rules.proofs.VerdictLaws.{first_append}
 use Rattle.wire.specs.MessageRefusals.{message_tests, message_verdict}
 use Rattle.wire.specs.MessageSaid.{Said, said_in}
@@ -31,7 +29,7 @@ verdict_chain b room = first_append (message_tests CancelRequest b) (later_tests
 
 -- ---- a message
 
-pub not_taken : (b before : List ℕ) (x : Refusal) → message_verdict CancelRequest b ≡ Refused x → taken_by (Untaken x) before ≡ cancel_read b before
+pub not_taken : (b before : List ℕ) (x : Refusal) → message_verdict CancelRequest b ≡ Err x → taken_by (Untaken x) before ≡ cancel_read b before
 unfolding cancel_read fill
 not_taken b before x e = rw (verdict_chain b (length before), e)
 

@@ -19,7 +19,7 @@ use octets::{get16, put64};
 use record_write::put_fields;
 use rules::kind::{CANCEL_ALL, CANCEL_OR_KILL, CELLS, NO_AREA, NOTIFIED};
 use rules::layout::{ITEM, RECORD};
-use rules::{Broadcasts, Refusal, Request, Seconds, Writing};
+use rules::{Broadcasts, Refusal, Request, Seconds};
 use wire::{Message, Taking};
 use wire_cells::{cell_at, cell_count};
 use wire_judge::{Judged, Seen, judge};
@@ -80,24 +80,24 @@ fn request_of(seen: Seen, cells: usize) -> Request
 }
 
 // 7, then 8, or the record at the start of the buffer; bytes behind it stay.
-fn put_record(elements: &[u8], seen: Seen, buffer: &mut [u8]) -> Writing
+fn put_record(elements: &[u8], seen: Seen, buffer: &mut [u8]) -> Result<usize, Refusal>
     requires lies { Lies CancelRequest elements.now seen }
     requires lacks_value { seen.lacks ≡ false }
     ensures { filled_by result buffer.new ≡ recorded (account_by CancelRequest elements.now seen).says buffer.old }
 {
     if !(seen.all | seen.noted) {
-        return Writing::Unwritten(Refusal::CancelsNothing);
+        return Err(Refusal::CancelsNothing);
     }
     let start = seen.start;
     let end = seen.end;
     let cells = &elements[start..end];
     let n = cell_count(Message::CancelRequest, cells);
     if buffer.len() < RECORD + ITEM * n {
-        return Writing::Unwritten(Refusal::ShortBuffer);
+        return Err(Refusal::ShortBuffer);
     }
     put_fields(buffer, request_of(seen, n), n as u16);
     put_cells(buffer, cells);
-    Writing::Written(RECORD + ITEM * n)
+    Ok(RECORD + ITEM * n)
 }
 
 // ---- all of it
@@ -108,8 +108,8 @@ pub fn read_cancel(message: &[u8], buffer: &mut [u8]) -> Taking
     match judge(message) {
         Judged::Unfit(refusal) => Taking::Untaken(refusal),
         Judged::Fine(start, seen) => match put_record(&message[start..], seen, buffer) {
-            Writing::Unwritten(refusal) => Taking::Untaken(refusal),
-            Writing::Written(length) => Taking::Taken(seen.transaction, length),
+            Err(refusal) => Taking::Untaken(refusal),
+            Ok(length) => Taking::Taken(seen.transaction, length),
         },
     }
 }

@@ -1,4 +1,5 @@
 -- 13 to 16 of a message: what the frame and the walk over its elements say decides each test, in order.
+use Rattle.std.specs.Prelude.{Ok, Err}
 use mathlib.Core.Path.{◌≡◌, refl, sym, ap, subst, ◌∙◌}
 use mathlib.Core.Bool.{Bool, true, false, cond, not, ◌&&◌, false≢true}
 use mathlib.Core.List.{List, [], ◌∷◌}
@@ -8,7 +9,6 @@ use lib.ListN.{length, take, drop, length-drop}
 use lib.Seq.{take_all}
 use Rattle.rules.specs.Lists.{any}
 use Rattle.rules.specs.declared.Refusal.TheVariants.{BadEncoding, OtherMessage, UnknownElement, ElementsWrong}
-use Rattle.rules.specs.declared.Verdict.TheVariants.{Accepted, Refused}
 use Rattle.rules.proofs.TestLaws.{both, by_test}
 use Rattle.formats.specs.Format.{Found, nothing, found, after, all_of}
 use Rattle.formats.specs.Summary.{summed, gathered}
@@ -96,20 +96,20 @@ module _ (m : Message) where
       subst (λ (l : List ℕ). WalkedOver m l r) (take_all (length b - start) (drop start b) rest) w
 
   module _ (b : List ℕ) where
-    bad : well_encoded m b ≡ false → message_verdict m b ≡ Refused BadEncoding
+    bad : well_encoded m b ≡ false → message_verdict m b ≡ Err BadEncoding
     unfolding message_verdict
     bad e = rw e
 
     into : (message m).parse b ≡ Into m (outer.parse b)
     into = frame_into (value m) b
 
-    pub unframed : FramedAs m b NoFrame → message_verdict m b ≡ Refused BadEncoding
+    pub unframed : FramedAs m b NoFrame → message_verdict m b ≡ Err BadEncoding
     unframed f = bad (neither-whole (not-whole (outer.parse b) f.says))
       where
         neither-whole : (whole (outer.parse b) ≡ false) × (whole (Into m (outer.parse b)) ≡ false) → well_encoded m b ≡ false
         neither-whole h = unfold well_encoded in by_test (is_this m b) (λ t. rw (t, into) h.1) (λ t. rw t h.0)
 
-    pub another : FramedAs m b Another → message_verdict m b ≡ Refused OtherMessage
+    pub another : FramedAs m b Another → message_verdict m b ≡ Err OtherMessage
     unfolding message_verdict well_encoded is_this
     another f = let o = others (outer.parse b) f.says in rw (o.1, o.0)
 
@@ -121,7 +121,7 @@ module _ (m : Message) where
       unfolding is_this
       is_this_lem = own.this
 
-      pub unwalked : WalkedOver m (take (length b - start) (drop start b)) Broken → message_verdict m b ≡ Refused BadEncoding
+      pub unwalked : WalkedOver m (take (length b - start) (drop start b)) Broken → message_verdict m b ≡ Err BadEncoding
       unwalked lent_on =
           let w = lent b start Broken lent_on in
           bad (broken_whole (own.broken (summed-nothing (gathered accounted open_account) (all_of ((value m).parse (drop start b)) []) (sym (summed_all (gathered accounted open_account) ((value m).parse (drop start b)) []) ∙ sym w.says))))
@@ -173,22 +173,22 @@ module _ (m : Message) where
           unfolding complete
           test = ap (λ (x : Bool). x && not s.lacks) in_order_lem ∙ ap (λ (x : Bool). in_order m (known_ids (message_elements m b)) && not x) lacks
 
-          rejected_here : s.rejects ≡ true → message_verdict m b ≡ Refused UnknownElement
+          rejected_here : s.rejects ≡ true → message_verdict m b ≡ Err UnknownElement
           unfolding message_verdict
           rejected_here t = rw (h.good, is_this_lem, sym rejects ∙ t)
 
-          wrong_here : s.rejects ≡ false → ((s.ordered && has_all m s.identified s.counted) && not s.lacks) ≡ false → message_verdict m b ≡ Refused ElementsWrong
+          wrong_here : s.rejects ≡ false → ((s.ordered && has_all m s.identified s.counted) && not s.lacks) ≡ false → message_verdict m b ≡ Err ElementsWrong
           unfolding message_verdict
           wrong_here r t = rw (h.good, is_this_lem, sym rejects ∙ r, sym test ∙ t)
 
-          fine_here : s.rejects ≡ false → ((s.ordered && has_all m s.identified s.counted) && not s.lacks) ≡ true → message_verdict m b ≡ Accepted
+          fine_here : s.rejects ≡ false → ((s.ordered && has_all m s.identified s.counted) && not s.lacks) ≡ true → message_verdict m b ≡ Ok tt
           unfolding message_verdict
           fine_here r t = rw (h.good, is_this_lem, sym rejects ∙ r, sym test ∙ t)
 
-        pub rejected : s.rejects ≡ true → message_verdict m b ≡ Refused UnknownElement
+        pub rejected : s.rejects ≡ true → message_verdict m b ≡ Err UnknownElement
         rejected t = by_elements (λ es h. rejected_here es h t)
 
-        pub wrong : s.rejects ≡ false → ((s.ordered && has_all m s.identified s.counted) && not s.lacks) ≡ false → message_verdict m b ≡ Refused ElementsWrong
+        pub wrong : s.rejects ≡ false → ((s.ordered && has_all m s.identified s.counted) && not s.lacks) ≡ false → message_verdict m b ≡ Err ElementsWrong
         wrong r t = by_elements (λ es h. wrong_here es h r t)
 
         not-true : (x : Bool) → not x ≡ true → x ≡ false

@@ -1,5 +1,6 @@
 -- One outcome only: which of 13 to 16 a message gets, or what a fit one says, the contract of `judge` settles. Where its list lies is told besides.
 -- Of a frame it is settled where the message begins, too: what is left of the bytes tells it.
+use Rattle.std.specs.Prelude.{Ok, Err}
 use mathlib.Core.Path.{◌≡◌, refl, sym, ap, ◌∙◌}
 use mathlib.Core.List.{List, [], ◌∷◌}
 use Prim.Native.Nat.{ℕ}
@@ -7,9 +8,8 @@ use native.Mathlib.Omega.{arith}
 use lib.ListN.{drop}
 use Rattle.octets.specs.Settled.{SettlesResult}
 use Rattle.octets.proofs.Once.{one-outcome, both_once}
+use Rattle.rules.specs.Refusals.{Verdict}
 use Rattle.rules.specs.declared.Refusal.{Refusal}
-use Rattle.rules.specs.declared.Verdict.{Verdict}
-use Rattle.rules.specs.declared.Verdict.TheVariants.{Accepted, Refused}
 use Rattle.wire.specs.MessageSaid.{Said, nothing_said}
 use Rattle.wire.specs.declared.Message.{Message}
 use Rattle.wire.specs.declared.Message.TheVariants.{CancelRequest}
@@ -52,10 +52,10 @@ frame_once κ args r s e f p q = framed_once args.0 args.1.0.now r s (one-outcom
 
 -- the verdict, and what is said; of any message, as the judge of responses has the same outcomes
 abbrev pub judged_to : Message → List ℕ → Judged → Verdict × Said
-judged_to m b (Fine start s) = (Accepted, (account_by m (drop start b) s).says)
-judged_to m b (Unfit x) = (Refused x, nothing_said)
+judged_to m b (Fine start s) = ((Ok tt), (account_by m (drop start b) s).says)
+judged_to m b (Unfit x) = (Err x, nothing_said)
 
-not_both : (x : Refusal) → Accepted ≡ Refused x → ⊥
+not_both : (x : Refusal) → (Ok tt) ≡ Err x → ⊥
 not_both x e = let z : ◌≡◌ {A = ℕ} 0 1 = cc in omega arith
 
 pub settled : (m : Message) (b : List ℕ) (r s : Judged) → JudgedAs m b r → JudgedAs m b s → judged_to m b r ≡ judged_to m b s

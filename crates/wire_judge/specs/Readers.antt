@@ -1,8 +1,7 @@
 -- What the functions of this crate answer.
-use Rattle.std.specs.Prelude.{◌≡◌, Bool, true, false, cond, ◌&&◌, ◌||◌, List, [], ◌∷◌, ℕ, ◌≤◌, eqb, ltb, length, drop}
+use Rattle.std.specs.Prelude.{◌≡◌, Bool, true, false, cond, ◌&&◌, ◌||◌, List, [], ◌∷◌, ℕ, ◌≤◌, eqb, ltb, length, drop, Ok, Err}
 use Rattle.octets.specs.Runs.{gets}
 use Rattle.octets.specs.Numbers.{be}
-use Rattle.rules.specs.declared.Verdict.TheVariants.{Accepted, Refused}
 use Rattle.formats.specs.Format.{Found, nothing, found, all_of}
 use Rattle.formats.specs.Summary.{summed, gathered}
 use Rattle.aper.specs.Elements.{reject, criticalities}
@@ -129,7 +128,7 @@ has_all CancelResponse identified counted = identified
 has_all WriteReplaceResponse identified counted = identified
 
 pub record FitMessage (m : Message) (b : List ℕ) (start : ℕ) (s : Seen) : Type 0 where
-  pub accepted : message_verdict m b ≡ Accepted
+  pub accepted : message_verdict m b ≡ Ok tt
   pub says : said_in m b ≡ (account_by m (drop start b) s).says
   pub begins : start ≤ length b
   pub lies : Lies m (drop start b) s
@@ -137,4 +136,4 @@ pub record FitMessage (m : Message) (b : List ℕ) (start : ℕ) (s : Seen) : Ty
 
 abbrev pub JudgedAs : Message → List ℕ → Judged → Type 0
 JudgedAs m b (Fine start s) = FitMessage m b start s
-JudgedAs m b (Unfit x) = message_verdict m b ≡ Refused x
+JudgedAs m b (Unfit x) = message_verdict m b ≡ Err x

@@ -4,14 +4,14 @@ use Rattle.record_read.proofs.TestOrder.{accepted-long, read_fields, read-nothin
 use Rattle.record_read.proofs.read.Goals as goal
 
 pub request-requires : goal.request-requires
-request-requires c = accepted-long _ c.verdict.ensures c.in-Accepted.is
+request-requires c = accepted-long _ c.verdict.ensures c.in_ok.is
 
 pub count-requires : goal.count-requires
-count-requires c = accepted-long _ c.verdict.ensures c.in-Accepted.is
+count-requires c = accepted-long _ c.verdict.ensures c.in_ok.is
 
-pub returns-in-Accepted : goal.returns-in-Accepted
-returns-in-Accepted c =
-    read_fields _ c.verdict.ensures c.in-Accepted.is c.request.ensures c.count.ensures
+pub returns-in_ok : goal.returns-in_ok
+returns-in_ok c =
+    read_fields _ c.verdict.ensures c.in_ok.is c.request.ensures c.count.ensures
 
-pub returns-in-Refused : goal.returns-in-Refused
-returns-in-Refused c = read-nothing _ c.verdict.ensures c.in-Refused.is
+pub returns-in_err : goal.returns-in_err
+returns-in_err c = read-nothing _ c.verdict.ensures c.in_err.is

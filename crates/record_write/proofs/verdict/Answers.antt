@@ -18,10 +18,10 @@ said j =
 pub returns-then-n-gt-MOST_ITEMS : goal.returns-then-n-gt-MOST_ITEMS
 returns-then-n-gt-MOST_ITEMS c = many-refused _ c.args.items.now _ c.if-n-gt-MOST_ITEMS.true
 
-pub returns-in-Refused : goal.returns-in-Refused
-returns-in-Refused c =
-    let judged = said (goal.at.returns-in-Refused c).After-judged-judgement in
-    request-refused _ c.args.items.now _ c.if-n-gt-MOST_ITEMS.false judged c.in-Refused.is
+pub returns-in_err : goal.returns-in_err
+returns-in_err c =
+    let judged = said (goal.at.returns-in_err c).After-judged-judgement in
+    request-refused _ c.args.items.now _ c.if-n-gt-MOST_ITEMS.false judged c.in_err.is
 
 pub returns-then-room-n : goal.returns-then-room-n
 returns-then-room-n c =

@@ -1,7 +1,7 @@
 -- `read_response` leaves what the definition of reading says: a refused message leaves nothing, and of a fit one the answer decides (`fit-taken`).
+use Rattle.std.specs.Prelude.{Ok, Err}
 use mathlib.Core.Path.{sym, ◌∙◌}
 use Rattle.octets.specs.Runs.{Bytes}
-use Rattle.rules.specs.declared.Writing.TheVariants.{Written, Unwritten}
 use Rattle.wire_judge.specs.Readers.{FitMessage}
 use Rattle.wire_judge.proofs.LentLaws.{lent-lies}
 use Rattle.response_judge.specs.Met.{seen_of}
@@ -34,10 +34,10 @@ pub returns-in-Unfit : goal.returns-in-Unfit
 returns-in-Unfit c =
     not_taken _ _ (bytes (goal.at.returns-in-Unfit c).After-meant-m) c.meant-m.ensures _ _ (rw c.in-Unfit.is at c.judge.ensures)
 
-pub returns-in-Unwritten : goal.returns-in-Unwritten
-returns-in-Unwritten c =
-    fit-taken _ _ (bytes (goal.at.returns-in-Unwritten c).After-meant-m) c.meant-m.ensures _ _ (fit (goal.at.returns-in-Unwritten c).In-Fine) _ (Unwritten c.in-Unwritten.refusal) _ (rw c.in-Unwritten.is at c.put_answer.ensures)
+pub returns-in_err : goal.returns-in_err
+returns-in_err c =
+    fit-taken _ _ (bytes (goal.at.returns-in_err c).After-meant-m) c.meant-m.ensures _ _ (fit (goal.at.returns-in_err c).In-Fine) _ (Err c.in_err.refusal) _ (rw c.in_err.is at c.put_answer.ensures)
 
-pub returns-in-Written : goal.returns-in-Written
-returns-in-Written c =
-    fit-taken _ _ (bytes (goal.at.returns-in-Written c).After-meant-m) c.meant-m.ensures _ _ (fit (goal.at.returns-in-Written c).In-Fine) _ (Written c.in-Written.length) _ (rw c.in-Written.is at c.put_answer.ensures)
+pub returns-in_ok : goal.returns-in_ok
+returns-in_ok c =
+    fit-taken _ _ (bytes (goal.at.returns-in_ok c).After-meant-m) c.meant-m.ensures _ _ (fit (goal.at.returns-in_ok c).In-Fine) _ (Ok c.in_ok.length) _ (rw c.in_ok.is at c.put_answer.ensures)

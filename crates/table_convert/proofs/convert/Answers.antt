@@ -5,7 +5,7 @@ use Rattle.table_convert.proofs.ConvertLaws.{old-refused}
 use Rattle.table_convert.proofs.convert.Goals as goal
 
 pub converted-requires : goal.converted-requires
-converted-requires c = sym c.verdict.ensures ∙ c.in-Accepted.is
+converted-requires c = sym c.verdict.ensures ∙ c.in_ok.is
 
-pub returns-in-Refused : goal.returns-in-Refused
-returns-in-Refused c = old-refused _ _ (sym c.in-Refused.is ∙ c.verdict.ensures)
+pub returns-in_err : goal.returns-in_err
+returns-in_err c = old-refused _ _ (sym c.in_err.is ∙ c.verdict.ensures)

@@ -1,7 +1,7 @@
 -- `read_cancel` leaves what the definition of reading says: a refused message leaves nothing, and of a fit one the record decides (`fit-taken`).
+use Rattle.std.specs.Prelude.{Ok, Err}
 use Rattle.wire.specs.declared.Message.TheVariants.{CancelRequest}
 use Rattle.wire_judge.specs.Readers.{FitMessage}
-use Rattle.rules.specs.declared.Writing.TheVariants.{Written, Unwritten}
 use Rattle.wire_judge.proofs.LentLaws.{lent-lies}
 use Rattle.wire_cancel.proofs.TakenLaws.{not_taken, fit-taken}
 use Rattle.wire_cancel.proofs.read_cancel.Goals.{In-Fine}
@@ -24,10 +24,10 @@ put_record-requires c =
 pub returns-in-Unfit : goal.returns-in-Unfit
 returns-in-Unfit c = not_taken _ _ _ (rw c.in-Unfit.is at c.judge.ensures)
 
-pub returns-in-Unwritten : goal.returns-in-Unwritten
-returns-in-Unwritten c =
-    fit-taken _ _ _ (fit (goal.at.returns-in-Unwritten c).In-Fine) _ (Unwritten c.in-Unwritten.refusal) _ (rw c.in-Unwritten.is at c.put_record.ensures)
+pub returns-in_err : goal.returns-in_err
+returns-in_err c =
+    fit-taken _ _ _ (fit (goal.at.returns-in_err c).In-Fine) _ (Err c.in_err.refusal) _ (rw c.in_err.is at c.put_record.ensures)
 
-pub returns-in-Written : goal.returns-in-Written
-returns-in-Written c =
-    fit-taken _ _ _ (fit (goal.at.returns-in-Written c).In-Fine) _ (Written c.in-Written.length) _ (rw c.in-Written.is at c.put_record.ensures)
+pub returns-in_ok : goal.returns-in_ok
+returns-in_ok c =
+    fit-taken _ _ _ (fit (goal.at.returns-in_ok c).In-Fine) _ (Ok c.in_ok.length) _ (rw c.in_ok.is at c.put_record.ensures)

@@ -4,8 +4,8 @@ use mathlib.Core.Path.{sym, ◌∙◌}
 use Rattle.engine.proofs.CallLaws.{no-refusal, refused-applied, granted_applied}
 use Rattle.engine.proofs.apply.apply.Goals as goal
 
-pub returns-in-Refused : goal.returns-in-Refused
-returns-in-Refused c = refused-applied _ _ _ _ (sym c.verdict.ensures ∙ c.in-Refused.is)
+pub returns-in_err : goal.returns-in_err
+returns-in_err c = refused-applied _ _ _ _ (sym c.verdict.ensures ∙ c.in_err.is)
 
 pub grant-rows-requires : goal.grant-rows-requires
 grant-rows-requires c = sym c.verdict.ensures ∙ no-refusal _ c.in_default.not-Refused

@@ -1,27 +1,27 @@
 -- `verdict` gives the first of the refusals 1 to 8 that applies.
 -- Each way out is its case of `apply_verdict`, by the verdicts that led there.
+use Rattle.std.specs.Prelude.{Ok}
 use mathlib.Core.Path.{◌≡◌, sym, ◌∙◌}
 use native.Mathlib.Omega.{arith}
 use Rattle.rules.specs.Layout.{current}
 use Rattle.rules.specs.Refusals.{table_verdict, record_verdict}
-use Rattle.rules.specs.declared.Verdict.TheVariants.{Accepted}
 use Rattle.engine.proofs.CallLaws.{no-refusal, table-refused, record-refused, room-refused, none-refused, long-table, long-record, few-cells, known-kind}
 use Rattle.engine.proofs.apply.verdict.Goals.{In_default, In_default-verdict}
 use Rattle.engine.proofs.apply.verdict.Goals as goal
 
 -- a table that was not refused, and a record that was not refused either
-table_fine : (c : In_default) → table_verdict current c.args.table.now ≡ Accepted
+table_fine : (c : In_default) → table_verdict current c.args.table.now ≡ Ok tt
 table_fine c = sym c.verdict.ensures ∙ no-refusal _ c.in_default.not-Refused
 
-record_fine : (c : In_default-verdict) → record_verdict current c.args.req.now ≡ Accepted
+record_fine : (c : In_default-verdict) → record_verdict current c.args.req.now ≡ Ok tt
 record_fine c = sym c.verdict-2.ensures ∙ no-refusal _ c.in_default-verdict.not-Refused
 
-pub returns-in-Refused : goal.returns-in-Refused
-returns-in-Refused c = table-refused _ _ _ _ (sym c.verdict.ensures ∙ c.in-Refused.is)
+pub returns-in_err : goal.returns-in_err
+returns-in_err c = table-refused _ _ _ _ (sym c.verdict.ensures ∙ c.in_err.is)
 
-pub returns-in-Refused-verdict : goal.returns-in-Refused-verdict
-returns-in-Refused-verdict c =
-    record-refused _ _ _ (table_fine (goal.at.returns-in-Refused-verdict c).In_default) _ (sym c.verdict-2.ensures ∙ c.in-Refused-verdict.is)
+pub returns-in_err-verdict : goal.returns-in_err-verdict
+returns-in_err-verdict c =
+    record-refused _ _ _ (table_fine (goal.at.returns-in_err-verdict c).In_default) _ (sym c.verdict-2.ensures ∙ c.in_err-verdict.is)
 
 pub request-fields-requires : goal.request-fields-requires
 request-fields-requires c = long-record _ (record_fine (goal.at.request-fields-requires c).In_default-verdict)

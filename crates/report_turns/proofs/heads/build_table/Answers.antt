@@ -17,14 +17,14 @@ part-long c = length-take-le (table_size c.args.cells) c.args.table.now (omega a
 pub slice_bounds-build-end-2 : goal.slice_bounds-build-end-2
 slice_bounds-build-end-2 c = sym (part-long (goal.at.slice_bounds-build-end-2 c).Start)
 
-pub returns-in-Unwritten : goal.returns-in-Unwritten
-returns-in-Unwritten c =
+pub returns-in_err : goal.returns-in_err
+returns-in_err c =
     let told = c.refuse in
     let number = c.number in
     let x = c.build in
     let a = c.args in
     λ lent room. refused_stepped a.cells a.heads.now a.table.now lent x.new.table a.out.now a.at x.result x.ensures
-    c.in-Unwritten.refusal number.result told.result told.new.out c.in-Unwritten.is number.ensures
+    c.in_err.refusal number.result told.result told.new.out c.in_err.is number.ensures
     (told.ensures (record { cells = 0; table = a.table.now; answer = lent }) refl)
 
 pub returns : goal.returns

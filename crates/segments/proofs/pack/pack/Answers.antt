@@ -5,11 +5,11 @@ use Rattle.segments.proofs.PackLaws.{pack_ready, pack-done, pack-refused}
 use Rattle.segments.proofs.pack.pack.Goals as goal
 
 pub put_segments-requires : goal.put_segments-requires
-put_segments-requires c = pack_ready _ _ _ (sym c.verdict.ensures ∙ c.in-Accepted.is)
+put_segments-requires c = pack_ready _ _ _ (sym c.verdict.ensures ∙ c.in_ok.is)
 
-pub returns-in-Accepted : goal.returns-in-Accepted
-returns-in-Accepted c =
-    pack-done _ _ _ _ (sym c.verdict.ensures ∙ c.in-Accepted.is) c.put_segments.ensures
+pub returns-in_ok : goal.returns-in_ok
+returns-in_ok c =
+    pack-done _ _ _ _ (sym c.verdict.ensures ∙ c.in_ok.is) c.put_segments.ensures
 
-pub returns-in-Refused : goal.returns-in-Refused
-returns-in-Refused c = pack-refused _ _ _ _ _ (sym c.verdict.ensures ∙ c.in-Refused.is) refl
+pub returns-in_err : goal.returns-in_err
+returns-in_err c = pack-refused _ _ _ _ _ (sym c.verdict.ensures ∙ c.in_err.is) refl
