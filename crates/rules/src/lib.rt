@@ -14,11 +14,11 @@ use kind::{CANCEL_ALL, NOTIFIED};
 
 // "A count of seconds never stands where a count of broadcasts is meant": each has a type of its own.
 #[repr(C)]
-#[derive(Clone, Copy)]
+#[derive(Clone, Copy, Default)]
 pub struct Seconds(pub u32);
 
 #[repr(C)]
-#[derive(Clone, Copy)]
+#[derive(Clone, Copy, Default)]
 pub struct Broadcasts(pub u16);
 
 // A live place of a cell.
@@ -36,7 +36,7 @@ pub struct Place {
 
 // A request without its items: what the reader returns of a record, and what the writer takes.
 #[repr(C)]
-#[derive(Clone, Copy)]
+#[derive(Clone, Copy, Default)]
 pub struct Request {
     pub kind: u8,
     pub flags: u8,
