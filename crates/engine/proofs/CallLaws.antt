@@ -22,12 +22,6 @@ use Rattle.rules.proofs.KindAreaLaws.{kind-known}
 use Rattle.rules.proofs.AcceptedCallLaws.{call_accepted}
 use Rattle.engine.specs.Walk.{Granted}
 
--- ---- a verdict that is no refusal
-
-pub no-refusal : (v : Verdict) → ((x : Refusal) → v ≡ Err x → ⊥) → v ≡ Ok tt
-no-refusal (Ok tt) n = refl
-no-refusal (Err x) n = absurd (n x refl)
-
 -- ---- the tests
 
 module _ (t r : List ℕ) (room : ℕ) where
