@@ -3,18 +3,18 @@
 use mathlib.Core.Path.{◌≡◌, refl}
 use mathlib.Core.Bool.{Bool, true, false, ◌&&◌, ◌||◌, and-true}
 use mathlib.Core.List.{List, [], ◌∷◌}
-use Prim.Native.Nat.{ℕ, zero, suc}
+use Prim.Native.Nat.{ℕ, zero, suc, ◌≤◌}
 use native.Mathlib.Omega.{arith}
 use lib.Dec.{eqb, ltb, leb}
 use lib.ListN.{length}
-use borrow.Author.Tests.{eqb-true, lt-leb, ne_eqb}
+use borrow.Author.Tests.{eqb-true, eqb-false, lt-leb, ne_eqb}
 use Rattle.octets.specs.Joined.{joined}
 use Rattle.rules.specs.Lists.{any, every, one_of, zeros}
 use Rattle.rules.specs.Record.{write_replace, cancel_or_kill, restart_kind, failure_kind, one_second, Kind, a_write_replace, a_cancel, a_restart, a_failure, a_second, unknown_kind, kind_of, emergency_area, any_area, identifier_to_sib, cancel_zeros, allowed, allowed_by, kind_allows, area_fits, item_end, within_limits, cancels_nothing}
 use Rattle.rules.specs.Refusals.{request_verdict}
 use Rattle.rules.specs.declared.Seconds.{Seconds}
 use Rattle.rules.specs.declared.Request.{Request}
-use Rattle.rules.proofs.TestLaws.{by_test, or_else, neither}
+use Rattle.rules.proofs.TestLaws.{by_test}
 use Rattle.record_judge.specs.Told.{kind_told, text_told, items_told, told_verdict}
 use Rattle.record_judge.proofs.SmallLaws.{all_small}
 
@@ -30,18 +30,12 @@ area-known (suc (suc (suc (suc n)))) =
     let x : ℕ = suc (suc (suc (suc n))) in
     rw (lt-leb x 3 (omega arith), ne_eqb x 0 (λ e. omega arith), ne_eqb x 1 (λ e. omega arith), ne_eqb x 2 (λ e. omega arith), ne_eqb x 3 (λ e. omega arith))
 
-module _ (kind flags area : ℕ) (textless omitted : Bool) where
-  -- a restart and a failure have one row of the table
-  pub told_emptying : eqb kind restart_kind || eqb kind failure_kind ≡ true → kind_told (kind_of kind) flags area textless omitted ≡ kind_told a_restart flags area textless omitted
-  told_emptying e =
-      by_test (eqb kind restart_kind) (λ r. rw (eqb-true kind restart_kind r)) λ r.
-      rw (eqb-true kind failure_kind (or_else (eqb kind restart_kind) _ e r))
-
-  pub told-unknown : (kind ≡ write_replace → ⊥) → (kind ≡ cancel_or_kill → ⊥) → eqb kind restart_kind || eqb kind failure_kind ≡ false → (kind ≡ one_second → ⊥)
-      → kind_told (kind_of kind) flags area textless omitted ≡ false
-  told-unknown a b c d =
-      let n = neither (eqb kind restart_kind) (eqb kind failure_kind) c in
-      rw (ne_eqb kind write_replace a, ne_eqb kind cancel_or_kill b, n.0, n.1, ne_eqb kind one_second d)
+-- a restart and a failure have one row of the table
+pub told_emptying : (kind flags area : ℕ) (textless omitted : Bool) → restart_kind ≤ kind → kind ≤ failure_kind → kind_told (kind_of kind) flags area textless omitted ≡ kind_told a_restart flags area textless omitted
+told_emptying kind flags area textless omitted a b =
+    by_test (eqb kind restart_kind) (λ r. rw (eqb-true kind restart_kind r)) λ r.
+    let e : kind ≡ failure_kind = omega (arith, eqb-false kind restart_kind r) in
+    rw e
 
 -- ---- as the rules say
 

@@ -32,29 +32,20 @@ fn cancel_flags(flags: u8) -> bool
 fn kind_allows(kind: u8, flags: u8, area: u8, textless: bool, omitted: bool) -> bool
     ensures { result ≡ kind_told (kind_of kind) flags area textless omitted }
 {
-    if kind == WRITE_REPLACE {
-        return ((flags == 0) | (flags == CONCURRENT)) & any_area(area);
+    match kind {
+        WRITE_REPLACE => ((flags == 0) | (flags == CONCURRENT)) & any_area(area),
+        CANCEL_OR_KILL => cancel_flags(flags) & any_area(area) & omitted,
+        RESTART | FAILURE => (flags == 0) & ((area == NO_AREA) | (area == CELLS)) & textless,
+        ONE_SECOND => (flags == 0) & (area == NO_AREA) & textless,
+        _ => false,
     }
-    if kind == CANCEL_OR_KILL {
-        return cancel_flags(flags) & any_area(area) & omitted;
-    }
-    if (kind == RESTART) | (kind == FAILURE) {
-        return (flags == 0) & ((area == NO_AREA) | (area == CELLS)) & textless;
-    }
-    if kind == ONE_SECOND {
-        return (flags == 0) & (area == NO_AREA) & textless;
-    }
-    false
 }
 
 // "Area 0 exactly when n = 0."
 fn area_fits(area: u8, n: usize) -> bool
     ensures { result ≡ area_told area n }
 {
-    if area == NO_AREA {
-        return n == 0;
-    }
-    n != 0
+    (area == NO_AREA) == (n == 0)
 }
 
 // ---- 6: limits
@@ -63,33 +54,26 @@ fn area_fits(area: u8, n: usize) -> bool
 fn text_within(kind: u8, period: Seconds, sib: u8, longest: Seconds) -> bool
     ensures { result ≡ text_told kind period sib longest }
 {
-    if kind != WRITE_REPLACE {
-        return true;
-    }
-    (period.0 <= longest.0) & (FIRST_SIB <= sib) & (sib <= LAST_SIB)
+    (kind != WRITE_REPLACE)
+        || (period.0 <= longest.0) & (FIRST_SIB <= sib) & (sib <= LAST_SIB)
 }
 
 // What an item, by its area, stays below.
 fn item_end(area: u8) -> u64
     ensures { result ≡ item_end area }
 {
-    if area == CELLS {
-        return CELL_END;
+    match area {
+        CELLS => CELL_END,
+        TRACKING_AREAS => TRACKING_END,
+        _ => EMERGENCY_END,
     }
-    if area == TRACKING_AREAS {
-        return TRACKING_END;
-    }
-    EMERGENCY_END
 }
 
 // Each of n items is small enough for its area: its end is a power of 2, so all of them are where all their bits are.
 fn items_small(area: u8, n: usize, any: u64) -> bool
     ensures { result ≡ items_told area n any }
 {
-    if n == 0 {
-        return true;
-    }
-    any < item_end(area)
+    n == 0 || any < item_end(area)
 }
 
 // ---- 7
@@ -103,6 +87,7 @@ fn cancels_nothing(kind: u8, flags: u8) -> bool
 
 // ---- in their order
 
+#[tactic(auto, unfolding(crate::specs::Told::told_verdict))]
 // The first of the refusals 5, 6 and 7 that applies. `textless`: the fields from identifier to SIB kind are zero; `omitted`: those are that
 // a cancel leaves out; `any`: every bit that is set in any of the n items.
 pub fn judged(
