@@ -33,4 +33,4 @@ put8-requires c = let two = long-size _ (long (goal.at.put8-requires c).Else-n-l
 pub returns : goal.returns
 returns c =
     let a = c.args in
-    (long-stored a.message.now a.at a.start a.n (search rules) (long (goal.at.returns c).Else-n-lt-SHORT) c.requires.n_lt_long_length c.put32-2.ensures c.put8.ensures, omega (arith, long-size _ (long (goal.at.returns c).Else-n-lt-SHORT)))
+    (long-stored a.message.now a.at a.start a.n (search rules) (long (goal.at.returns c).Else-n-lt-SHORT) c.requires.fits_length c.put32-2.ensures c.put8.ensures, omega (arith, long-size _ (long (goal.at.returns c).Else-n-lt-SHORT)))
