@@ -16,7 +16,7 @@ ghost use Rattle.wire.specs.Readers.{NoteAt, Tells, transaction_heard};
 use crate::form::{PADDING, TRANSACTION};
 use crate::list::list_told;
 use aper::given_at;
-use octets::{get8, get16, get64};
+use octets::get;
 
 // The messages that are read.
 #[derive(Clone, Copy)]
@@ -81,7 +81,7 @@ pub fn identity_at(s: &[u8], at: usize) -> u64
     requires { at + 8 ≤ length s.now }
     ensures { result ≡ be (gets s.now at 8) / 16 }
 {
-    get64(s, at) / PADDING
+    get::<u64>(s, at) / PADDING
 }
 
 // A byte 0, and the transaction identifier.
@@ -91,10 +91,10 @@ pub fn transaction(part: &[u8]) -> Option<u8>
     if part.len() != 2 {
         return None;
     }
-    if get8(part, 0) != 0 {
+    if get::<u8>(part, 0) != 0 {
         return None;
     }
-    Some(get8(part, 1))
+    Some(get::<u8>(part, 1))
 }
 
 fn requested(part: &[u8]) -> Option<Heard>
@@ -103,7 +103,7 @@ fn requested(part: &[u8]) -> Option<Heard>
     if part.len() != 2 {
         return None;
     }
-    Some(Heard::Requested(get16(part, 0)))
+    Some(Heard::Requested(get::<u16>(part, 0)))
 }
 
 fn indicator(part: &[u8]) -> Option<Heard>
@@ -112,7 +112,7 @@ fn indicator(part: &[u8]) -> Option<Heard>
     if part.len() != 1 {
         return None;
     }
-    if get8(part, 0) != 0 {
+    if get::<u8>(part, 0) != 0 {
         return None;
     }
     Some(Heard::CancelAll)
@@ -134,9 +134,9 @@ fn note_at(s: &[u8], at: usize) -> Option<Note>
     if s.len() - at < 5 {
         return None;
     }
-    let front = get8(s, at) as u64;
-    let middle = get16(s, at + 1) as u64;
-    let back = get16(s, at + 3) as u64;
+    let front = get::<u8>(s, at) as u64;
+    let middle = get::<u16>(s, at + 1) as u64;
+    let back = get::<u16>(s, at + 3) as u64;
     let n = front * 4294967296 + middle * 65536 + back;
     if EXTENDED <= n {
         return None;

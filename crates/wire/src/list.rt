@@ -7,7 +7,7 @@ ghost use Rattle.wire.specs.Readers.{ItemGraded, GradeLies, plain_head, PlainIte
 use crate::form::{IDENTITY_AT, IDENTITY_END, LISTED_HEAD};
 use crate::{Marks, Message, identity_at};
 use aper::{CRITICALITIES, Element, REJECT, element_at, given_at};
-use octets::{get8, get16, get32};
+use octets::get;
 
 // The last byte of NR CGI, of which four bits are padding; in the list it stands behind the head of its entry.
 const LAST_OF_IDENTITY: usize = IDENTITY_END - 1;
@@ -39,8 +39,8 @@ fn item_grade(m: Message, s: &[u8]) -> Option<Grade>
     if s.len() < IDENTITY_END {
         return None;
     }
-    let flags = get8(s, 0);
-    let last = get8(s, LAST_OF_IDENTITY);
+    let flags = get::<u8>(s, 0);
+    let last = get::<u8>(s, LAST_OF_IDENTITY);
     let padded = (flags / 128 == 0) & (flags % 64 / 32 == 0) & (flags % 16 == 0) & (last % 16 == 0);
     if !padded {
         return None;
@@ -69,9 +69,9 @@ fn plain_item(m: Message, plain: u32, s: &[u8], at: usize) -> bool
     if s.len() - at < LISTED_HEAD + size {
         return false;
     }
-    let head = get32(s, at);
-    let flags = get8(s, at + LISTED_HEAD);
-    let last = get8(s, at + LAST_LISTED);
+    let head = get::<u32>(s, at);
+    let flags = get::<u8>(s, at + LISTED_HEAD);
+    let last = get::<u8>(s, at + LAST_LISTED);
     (head / 65536 * 65536 + head % 16384 == plain) & (flags == 0) & (last % 16 == 0)
 }
 
@@ -122,7 +122,7 @@ fn entry_count(s: &[u8]) -> Option<usize>
     if s.len() < 2 {
         return None;
     }
-    let last = get16(s, 0) as usize;
+    let last = get::<u16>(s, 0) as usize;
     if MOST_LISTED <= last {
         return None;
     }

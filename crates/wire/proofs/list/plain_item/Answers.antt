@@ -10,4 +10,4 @@ pub returns : goal.returns
 returns c =
     let long : c.args.at + (4 + plain_size c.args.m) ≤ length c.args.s.now = omega (arith, c.count_size-size.ensures, c.if-s-at.false) in
     rw c.requires.plain_value
-    (plain-there c.args.m _ _ (λ i. (c.type_inv.s i).fits) long _ _ _ c.get32-head.ensures c.get8-flags.ensures c.get8-last.ensures)
+    (plain-there c.args.m _ _ (λ i. (c.type_inv.s i).fits) long _ _ _ c.get-head.ensures c.get-flags.ensures c.get-last.ensures)
