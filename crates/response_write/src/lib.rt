@@ -18,7 +18,7 @@ ghost use Rattle.response_write.specs.Parts.{response_by, opening, opening_size,
 
 use answer::{Row, kind, row_at, rows};
 use answer_judge::can_be_answered;
-use octets::{put8, put16, put32, put64};
+use octets::put;
 use rules::Refusal;
 use rules::kind::CANCEL_OR_KILL;
 use wire::Message;
@@ -75,11 +75,11 @@ fn put_opening(message: &mut [u8], at: usize, start: u16, n: usize) -> usize
 {
     let started = (start as u32) * 65536;
     if n < SHORT {
-        put32(message, at, started + (n as u32));
+        put(message, at, started + (n as u32));
         return at + START + 1;
     }
-    put32(message, at, started + LONG + ((n / 256) as u32));
-    put8(message, at + START + 1, (n % 256) as u8);
+    put(message, at, started + LONG + ((n / 256) as u32));
+    put(message, at + START + 1, (n % 256) as u8);
     at + START + 2
 }
 
@@ -117,12 +117,12 @@ impl Response {
         ensures { (message.new ≡ sets message.old 0 (opening (frame_id self.m) value ++ front_bytes self.rows self.transaction)) × (result ≡ opening_size value + front_size) }
     {
         let at = put_opening(message, 0, self.m.frame_id(), value);
-        put64(
+        put(
             message,
             at,
             (1 + ((0 < self.rows) as u64)) * ELEMENT + IDENTIFIER,
         );
-        put8(message, at + NUMBER_AT, self.transaction);
+        put(message, at + NUMBER_AT, self.transaction);
         at + FRONT
     }
 
@@ -132,10 +132,10 @@ impl Response {
         requires is_cell { (row_said row).identity < cell_end }
         ensures { message.new ≡ sets message.old at (item_bytes self.m (row_said row)) }
     {
-        put64(message, at, (self.m.plain_head() as u64) * BEHIND_START);
-        put64(message, at + CELL_AT, row.identity.0 * PADDING);
+        put(message, at, (self.m.plain_head() as u64) * BEHIND_START);
+        put(message, at + CELL_AT, row.identity.0 * PADDING);
         if self.m.count_size() == COUNT {
-            put16(message, at + ITEM, row.count.0);
+            put(message, at + ITEM, row.count.0);
         }
     }
 
@@ -165,7 +165,7 @@ impl Response {
             self.m.cells_id(),
             COUNTED + self.item_size() * self.rows,
         );
-        put16(message, start, (self.rows - 1) as u16);
+        put(message, start, (self.rows - 1) as u16);
         self.put_items(message, start + COUNTED, answer);
     }
 

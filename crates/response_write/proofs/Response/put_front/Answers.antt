@@ -7,6 +7,6 @@ pub returns : goal.returns
 returns c =
     let at = c.put_opening-at.ensures.1 in (
       rw (← c.frame_id.ensures)
-          (front_stored _ _ _ _ c.args.self.rows c.args.self.transaction c.put_opening-at.ensures.0 c.put64.ensures c.put8.ensures (omega arith)),
+          (front_stored _ _ _ _ c.args.self.rows c.args.self.transaction c.put_opening-at.ensures.0 c.put.ensures c.put-2.ensures (omega arith)),
       omega arith,
     )

@@ -9,4 +9,4 @@ returns c =
     let r = c.args.self in
     list-stored c.args.answer.now r.m r.rows c.args.message.now c.args.at _ _ c.requires.has_rows
     (ap (λ (n : ℕ). 2 + n * r.rows) c.item_size.ensures) (rw (← c.cells_id.ensures) c.put_opening-start.ensures.0) c.put_opening-start.ensures.1
-    c.put16.ensures c.put_items.ensures
+    c.put.ensures c.put_items.ensures
