@@ -8,7 +8,9 @@ use Prim.Native.Nat.{ℕ, ◌+◌, ◌*◌, ◌≤◌, ◌<◌}
 use lib.Dec.{eqb, leb}
 use lib.ListN.{length}
 use borrow.Author.Tests.{leb-true, le-leb, lt-leb, eq-eqb, ne_eqb, not-true, not-false}
-use Rattle.octets.specs.Fields.{field_of}
+use Rattle.octets.specs.Fields.{field_of, offset}
+use Rattle.octets.specs.Numbers.{be}
+use Rattle.octets.specs.Runs.{gets}
 use Rattle.rules.specs.Layout.{current, mark_field, record_fields, record_size, item_size, record_mark, most_items}
 use Rattle.rules.specs.Record.{version_in, takes_version, longest_asked, request_of, items_of, item_count, zero_byte, record_marked}
 use Rattle.rules.specs.Refusals.{request_verdict, record_verdict, Verdict}
@@ -17,39 +19,20 @@ use Rattle.rules.specs.declared.Request.{Request}
 use Rattle.rules.specs.declared.Refusal.{Refusal}
 use Rattle.rules.specs.declared.Refusal.TheVariants.{RecordMark, RecordLength, RecordFields}
 use Rattle.rules.proofs.TestLaws.{both}
+use Rattle.record_read.proofs.FieldReads.{record-field}
 use Rattle.rules.proofs.AcceptedRecordLaws.{record-accepted}
 
--- ---- 3 to 7 in their order
+-- bytes that are marked are long enough for a record's fields
+pub marked_long : (r : List ℕ) → record_marked current r ≡ true → record_size ≤ length r
+unfolding record_marked
+marked_long r e =
+    let h = both (leb record_size (length r) && eqb (field_of record_fields mark_field r) record_mark) (takes_version current (version_in r)) e in
+    leb-true record_size (length r) (both (leb record_size (length r)) (eqb (field_of record_fields mark_field r) record_mark) h.0).0
 
-module _ (r : List ℕ) {marked : Bool} (m : marked ≡ record_marked current r) where
-  pub mark-refused : not marked ≡ true → Err RecordMark ≡ record_verdict current r
-  unfolding record_verdict
-  mark-refused t = rw (← m, not-true marked t)
-
-  module _ (right : not marked ≡ false) where
-    pub long_enough : record_size ≤ length r
-    unfolding record_marked
-    long_enough =
-        let h = both (leb record_size (length r) && eqb (field_of record_fields mark_field r) record_mark) (takes_version current (version_in r)) (sym m ∙ not-false marked right) in
-        leb-true record_size (length r) (both (leb record_size (length r)) (eqb (field_of record_fields mark_field r) record_mark) h.0).0
-
-    module _ {n : ℕ} (c : n ≡ item_count r) where
-      pub many-refused : most_items < n → Err RecordLength ≡ record_verdict current r
-      unfolding record_verdict
-      many-refused t = rw (← m, not-false marked right, ← c, lt-leb n most_items t)
-
-      pub length-refused : n ≤ most_items → (length r ≡ record_size + item_size current * n → ⊥) → Err RecordLength ≡ record_verdict current r
-      unfolding record_verdict
-      length-refused few t = rw (← m, not-false marked right, ← c, le-leb n most_items few, ne_eqb (length r) (record_size + item_size current * n) t)
-
-      module _ (few : n ≤ most_items) (size : length r ≡ record_size + item_size current * n) {zero : ℕ} (z : zero ≡ zero_byte r) where
-        pub zero-refused : (zero ≡ 0 → ⊥) → Err RecordFields ≡ record_verdict current r
-        unfolding record_verdict
-        zero-refused t = rw (← m, not-false marked right, ← c, le-leb n most_items few, eq-eqb (length r) (record_size + item_size current * n) size, ← z, ne_eqb zero 0 t)
-
-        pub rest-judged : zero ≡ 0 → request_verdict (longest_asked r) (request_of r) (items_of r) ≡ record_verdict current r
-        unfolding record_verdict request_verdict
-        rest-judged t = rw (← m, not-false marked right, ← c, le-leb n most_items few, eq-eqb (length r) (record_size + item_size current * n) size, ← z, eq-eqb zero 0 t)
+-- byte 23 is their zero byte
+pub zero_read : (r : List ℕ) → record_marked current r ≡ true → zero_byte r ≡ be (gets r 23 1)
+unfolding offset
+zero_read r e = record-field r (marked_long r e) 11
 
 -- ---- what is read
 

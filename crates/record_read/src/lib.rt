@@ -97,6 +97,7 @@ fn fields_judged(req: &[u8], n: usize) -> Result<(), Refusal>
 }
 
 // The first of the refusals 3 to 7 that applies to any bytes.
+#[tactic(auto, using(crate::proofs::TestOrder::marked_long, crate::proofs::TestOrder::zero_read), unfolding(rules::specs::Refusals::record_verdict, rules::specs::Refusals::request_verdict, rules::specs::Record::items_of))]
 pub fn verdict(req: &[u8]) -> Result<(), Refusal>
     ensures { result ≡ record_verdict current req.now }
 {
