@@ -67,13 +67,13 @@ pub fn put_head(answer: &mut [u8], kind: u8, identifier: u16, serial: u16, rows:
 }
 
 // A row at an index of the bytes behind the head.
-pub fn put_row(out: &mut [u8], at: usize, identity: CellIdentity, count: Broadcasts, content: u32)
+pub fn put_row(out: &mut [u8], at: usize, row: Row)
     requires { at + row_size current ≤ length out.old }
-    ensures { out.new ≡ sets out.old at (row_bytes current (record { identity = identity_number identity; count = count.0; content = content })) }
+    ensures { out.new ≡ sets out.old at (row_bytes current (row_said row)) }
 {
-    put64(out, at, identity.0);
-    put16(out, at + COUNT_IN_ROW_AT, count.0);
-    put32(out, at + CONTENT_IN_ROW_AT, content);
+    put64(out, at, row.identity.0);
+    put16(out, at + COUNT_IN_ROW_AT, row.count.0);
+    put32(out, at + CONTENT_IN_ROW_AT, row.content);
 }
 
 // ---- read

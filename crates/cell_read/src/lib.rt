@@ -18,7 +18,7 @@ use rules::{Broadcasts, CellIdentity, Seconds};
 // ---- one place
 
 // How often and how many times a text is broadcast.
-#[derive(Drop)]
+#[derive(Clone, Copy)]
 pub struct Terms {
     pub period: Seconds,
     pub requested: Broadcasts,

@@ -7,7 +7,7 @@ ghost use Rattle.cell_read.specs.Places.{live_places, with_places, Formed, place
 ghost use Rattle.in_cell.specs.Step.{Ready, Stepped};
 ghost use Rattle.in_cell.specs.Second.{going_on, ToAir, Aired, AllLater};
 
-use answer::put_row;
+use answer::{Row, put_row};
 use cell_change::{Counts, drop_place, set_counts, set_wait};
 use cell_read::{content, identity, is_live, sent, terms_of, wait};
 use rules::layout::{MOST_SENT, PLACES, ROW};
@@ -68,7 +68,15 @@ fn air(cell: &mut [u8], k: usize, out: &mut [u8], n: usize) -> usize
     let identity = identity(cell);
     let content = content(cell, k);
     set_counts(cell, k, Counts { sent, wait });
-    put_row(out, ROW * n, identity, sent, content);
+    put_row(
+        out,
+        ROW * n,
+        Row {
+            identity,
+            count: sent,
+            content,
+        },
+    );
     all_sent(terms.requested, sent) as usize
 }
 

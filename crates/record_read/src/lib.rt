@@ -86,13 +86,8 @@ fn fields_judged(req: &[u8], n: usize) -> Result<(), Refusal>
     ensures { result ≡ request_verdict (longest_asked req.now) (request_of req.now) (map be (pieces (item_size current) n (drop record_size req.now))) }
 {
     let any = any64(req, RECORD, n);
-    let fields = request(req);
     judged(
-        fields.kind,
-        fields.flags,
-        fields.area,
-        fields.period,
-        fields.sib,
+        request(req),
         no_text(req),
         cancel_zeros(req),
         n,

@@ -2,8 +2,5 @@ use mathlib.Core.Bool.{false}
 use Rattle.wire.proofs.ListLaws.{ListWalk}
 use Rattle.wire.proofs.list.plain_list.Given as goal
 
-abbrev pub invariant-loop-left : goal.invariant-loop-left
-invariant-loop-left l = ListWalk l.m l.s l.left l.at (false, (false, (l.ascends, l.least)))
-
-abbrev pub decreases-loop-left : goal.decreases-loop-left
-decreases-loop-left l = l.left
+abbrev pub invariant-loop : goal.invariant-loop
+invariant-loop l = ListWalk l.m l.s l.count l.counter l.at (false, (false, (l.ascends, l.least)))
