@@ -2,7 +2,7 @@
 -- is still to be said of all bytes, those still to come among them, stays the same.
 use Rattle.std.specs.Prelude.{Some, None}
 use mathlib.Core.Path.{◌≡◌, refl, sym, ap, ◌∙◌}
-use mathlib.Core.Bool.{Bool, true, false, false≢true}
+use mathlib.Core.Bool.{Bool, true, false≢true}
 use mathlib.Core.List.{List, [], ◌++◌, flat_map, append_assoc, append-nil}
 use Prim.Native.Nat.{ℕ}
 use Rattle.report_turns.specs.Turns.{Program, begun, serves, step_by, step, Spoken, stops, goes, reads, finds_the_end}

@@ -1,15 +1,13 @@
 -- What `open_table` and its parts find at the front of the bytes at hand, and what they do with it, is the turn that the definition has.
-use Rattle.std.specs.Prelude.{Some, None, is_none, Ok, Err}
-use Rattle.std.specs.Bool.{then_some}
+use Rattle.std.specs.Prelude.{Some, None, Ok, Err}
 use mathlib.Core.Path.{◌≡◌, refl, sym, ap, ◌∙◌}
-use mathlib.Core.Bool.{Bool, true, false, cond, ◌&&◌, ◌||◌}
+use mathlib.Core.Bool.{Bool, cond, ◌||◌}
 use mathlib.Core.List.{List, [], ◌++◌}
-use Prim.Native.Nat.{ℕ, ◌+◌, ◌*◌, ◌≤◌, ◌<◌}
+use Prim.Native.Nat.{ℕ, ◌+◌, ◌*◌, ◌≤◌}
 use native.Mathlib.Omega.{arith}
-use lib.Dec.{eqb, leb}
 use lib.ListN.{length, take, drop, take-append-drop}
 use lib.Seq.{length-take-le}
-use borrow.Author.Tests.{le-leb, lt-leb, ne_eqb}
+use borrow.Author.Tests.{ne_eqb}
 use Rattle.rules.specs.Layout.{current, head_size}
 use Rattle.rules.specs.Refusals.{number_of, Writing}
 use Rattle.rules.specs.Applied.{Filled, filled_by, built}
@@ -17,7 +15,7 @@ use Rattle.rules.specs.declared.Refusal.{Refusal}
 use Rattle.rules.proofs.OutcomeLaws.{number_positive, built-refused}
 use Rattle.report_lines.specs.Text.{no_text}
 use Rattle.report_lines.specs.Told.{Tells}
-use Rattle.report_lines.specs.Framing.{count_size, cells_named, heads_end}
+use Rattle.report_lines.specs.Framing.{count_size, heads_end}
 use Rattle.report_lines.specs.declared.text.Text.{Text}
 use Rattle.report_lines.proofs.TextLaws.{tells_none}
 use Rattle.report_turns.specs.Report.{answer_room, table_size, heads_there}

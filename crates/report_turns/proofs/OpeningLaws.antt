@@ -1,10 +1,9 @@
 -- N and the heads: what stands at the front of the bytes at hand stands at the front of the whole input, so the table that is built of
 -- them, or the refusal, is that of the whole.
-use Rattle.std.specs.Prelude.{Option, Some, None, is_none, IfSome}
-use Rattle.std.specs.Bool.{then_some}
+use Rattle.std.specs.Prelude.{Some, None, is_none}
 use mathlib.Core.Path.{◌≡◌, refl, ap}
 use mathlib.Core.Bool.{Bool, true, false, ◌&&◌, ◌||◌}
-use mathlib.Core.List.{List, [], ◌∷◌, ◌++◌, append-nil}
+use mathlib.Core.List.{List, ◌∷◌, ◌++◌, append-nil}
 use Prim.Native.Nat.{ℕ, zero, suc, ◌+◌, ◌-◌, ◌*◌, ◌≤◌}
 use native.Mathlib.Omega.{arith}
 use lib.Dec.{eqb, leb}
@@ -17,7 +16,7 @@ use Rattle.rules.specs.Applied.{Filled, built}
 use Rattle.rules.proofs.TestLaws.{by_test, both}
 use Rattle.report_lines.specs.Text.{no_text}
 use Rattle.report_lines.specs.Framing.{count_size, cells_named, heads_end}
-use Rattle.report_turns.specs.Report.{answer_room, table_size, with_heads, heads_there, opened_said, report}
+use Rattle.report_turns.specs.Report.{answer_room, table_size, heads_there, opened_said, report}
 use Rattle.report_turns.specs.Turns.{begun, no_cells, opened, opens}
 use Rattle.report_turns.specs.declared.Next.TheVariants.{Wait}
 use Rattle.report_turns.proofs.RoomLaws.{room_within}

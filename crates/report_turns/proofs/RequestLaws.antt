@@ -9,14 +9,14 @@ use Prim.Native.Nat.{ℕ, zero, suc, ◌-◌, ◌≤◌, ◌<◌}
 use native.Mathlib.Omega.{arith}
 use lib.Dec.{eqb, leb}
 use lib.ListN.{length, take, drop, length-drop}
-use borrow.Author.Tests.{eq-eqb, eqb-true, eqb-false, leb-true, leb-false, lt-leb}
+use borrow.Author.Tests.{eq-eqb, eqb-true, eqb-false, leb-true, lt-leb}
 use Rattle.rules.specs.Layout.{current}
 use Rattle.rules.specs.Applied.{Outcome, applied}
 use Rattle.rules.proofs.TestLaws.{by_test}
 use Rattle.report_lines.specs.Text.{said_of}
 use Rattle.report_lines.specs.Framing.{own_size, frame_of, stops_at}
 use Rattle.report_lines.proofs.Framed.{own-least}
-use Rattle.report_turns.specs.Report.{request_said, requests_said}
+use Rattle.report_turns.specs.Report.{requests_said}
 
 -- by the two cases of an option
 pub by_some : {P : Type 0} (o : Option ℕ) → (o ≡ None → P) → ((n : ℕ) → o ≡ Some n → P) → P

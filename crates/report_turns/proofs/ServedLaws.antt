@@ -2,7 +2,7 @@
 -- nothing yet.
 use Rattle.std.specs.Prelude.{Some, None}
 use mathlib.Core.Path.{◌≡◌, refl, sym, ◌∙◌}
-use mathlib.Core.Bool.{Bool, true, false, cond}
+use mathlib.Core.Bool.{Bool, true, false}
 use mathlib.Core.List.{List, [], ◌++◌}
 use Prim.Native.Nat.{ℕ, ◌+◌, ◌≤◌}
 use native.Mathlib.Omega.{arith}
@@ -13,7 +13,7 @@ use Rattle.report_lines.specs.declared.text.Text.{Text}
 use Rattle.report_lines.proofs.TextLaws.{tells_none}
 use Rattle.report_turns.specs.Report.{answer_room, table_size}
 use Rattle.report_turns.specs.Serve.{most_text, Served}
-use Rattle.report_turns.specs.Turns.{Program, waiting, stopping, served, serves}
+use Rattle.report_turns.specs.Turns.{Program, served, serves}
 use Rattle.report_turns.specs.Buffers.{Stepped, program_in}
 use Rattle.report_turns.specs.declared.Next.{Next}
 use Rattle.report_turns.specs.declared.Next.TheVariants.{Wait, Stop}

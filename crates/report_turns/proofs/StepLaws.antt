@@ -14,7 +14,7 @@ use Rattle.report_lines.specs.Text.{no_text}
 use Rattle.report_lines.specs.Framing.{frame_of, stops_at}
 use Rattle.report_turns.specs.Report.{heads_there}
 use Rattle.report_turns.specs.Turns.{Program, Step, waiting, stopping, no_cells, opened, built_from, opens, served, serves, step_by, step}
-use Rattle.report_turns.specs.declared.Next.TheVariants.{Go, Wait, Stop}
+use Rattle.report_turns.specs.declared.Next.TheVariants.{Go, Stop}
 use Rattle.report_turns.proofs.RequestLaws.{by_some, framed}
 
 -- ---- what a step may do

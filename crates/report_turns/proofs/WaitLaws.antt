@@ -1,8 +1,8 @@
 -- A turn that waits has less at hand than the heads of the largest table: a part of them, or a part of a record, which is shorter.
-use Rattle.std.specs.Prelude.{Option, Some, None, is_none}
+use Rattle.std.specs.Prelude.{Option, Some, None}
 use mathlib.Core.Path.{◌≡◌}
-use mathlib.Core.Bool.{Bool, true, false, cond, ◌&&◌, ◌||◌}
-use mathlib.Core.List.{List, []}
+use mathlib.Core.Bool.{Bool, true, false, ◌&&◌, ◌||◌}
+use mathlib.Core.List.{List}
 use Prim.Native.Nat.{ℕ, ◌+◌, ◌*◌, ◌≤◌, ◌<◌}
 use native.Mathlib.Omega.{arith}
 use lib.Dec.{eqb, leb}
@@ -14,7 +14,7 @@ use Rattle.rules.specs.Applied.{Filled, Outcome}
 use Rattle.rules.proofs.TestLaws.{by_test, both, neither}
 use Rattle.report_lines.specs.Framing.{count_size, cells_named, heads_end, own_size, frame_of, stops_at}
 use Rattle.report_turns.specs.Report.{heads_there}
-use Rattle.report_turns.specs.Turns.{Program, stopping, waiting, no_cells, opened, built_from, opens, served, serves, step_by, step}
+use Rattle.report_turns.specs.Turns.{Program, no_cells, opened, built_from, opens, served, serves, step_by, step}
 use Rattle.report_turns.specs.declared.Next.TheVariants.{Go, Wait, Stop}
 use Rattle.report_turns.proofs.RequestLaws.{by_some}
 use Rattle.report_turns.proofs.OpeningLaws.{named-most}

@@ -5,7 +5,6 @@ use Prim.Native.Nat.{◌*◌, ◌≤◌}
 use mathlib.Core.Path.{sym}
 use native.Mathlib.Omega.{arith}
 use lib.ListN.{take}
-use Rattle.octets.specs.Runs.{Bytes}
 use Rattle.rules.specs.Layout.{current, places_per_cell, most_cells}
 use Rattle.rules.specs.Answer.{row_count}
 use Rattle.report_turns.proofs.ServeLaws.{Lies, written-lies, rows_fit, served-ok, served-no}
@@ -42,7 +41,7 @@ returns-in-Ok c =
     let a = c.args in
     record {
       served = served-ok a.table.now a.req.now a.answer.now c.apply.new.table c.apply.new.answer a.text.now c.put_answer.new.self c.apply.result c.apply.ensures
-      c.in-Ok.length c.in-Ok.is c.put_answer.ensures.tells;
+          c.in-Ok.length c.in-Ok.is c.put_answer.ensures.tells;
       room_taken = omega (arith, c.put_answer.ensures.room_taken, few-rows at.In-Ok (lies at.In-Ok));
     }
 
