@@ -23,6 +23,7 @@ use rules::layout::{
 use rules::{Broadcasts, Refusal, Request, Seconds};
 
 // The fields of a record.
+#[tactic(auto, using(crate::proofs::FieldReads::request_read))]
 pub fn request(req: &[u8]) -> Request
     requires { record_size ≤ length req.now }
     ensures { result ≡ request_of req.now }
@@ -41,6 +42,7 @@ pub fn request(req: &[u8]) -> Request
 }
 
 // The count of items that a record gives.
+#[tactic(auto, using(crate::proofs::FieldReads::count_read))]
 pub fn count(req: &[u8]) -> usize
     requires { record_size ≤ length req.now }
     ensures { result ≡ item_count req.now }
@@ -49,6 +51,7 @@ pub fn count(req: &[u8]) -> usize
 }
 
 // The longest period that a record may ask for: its own version says.
+#[tactic(auto, using(crate::proofs::FieldReads::version_read))]
 fn longest_asked(req: &[u8]) -> Seconds
     requires { record_size ≤ length req.now }
     ensures { result ≡ longest_asked req.now }
@@ -62,6 +65,7 @@ fn longest_asked(req: &[u8]) -> Seconds
 // ---- 5, 6 and 7, asked of the bytes
 
 // "identifier to SIB" are zero: 15 bytes, in two reads that share one.
+#[tactic(auto, using(crate::proofs::FieldReads::text_zeros))]
 fn no_text(req: &[u8]) -> bool
     requires { record_size ≤ length req.now }
     ensures { result ≡ zeros (identifier_to_sib (request_of req.now)) }
@@ -70,6 +74,7 @@ fn no_text(req: &[u8]) -> bool
 }
 
 // The fields are zero that a cancel leaves out: content and period at once, and so identifier and serial number.
+#[tactic(auto, using(crate::proofs::FieldReads::cancelled_zeros))]
 fn cancel_zeros(req: &[u8]) -> bool
     requires { record_size ≤ length req.now }
     ensures { result ≡ zeros (cancel_zeros (request_of req.now)) }
@@ -97,6 +102,7 @@ fn fields_judged(req: &[u8], n: usize) -> Result<(), Refusal>
 }
 
 // The first of the refusals 3 to 7 that applies to any bytes.
+#[tactic(auto, using(crate::proofs::FieldReads::marked_long, crate::proofs::FieldReads::zero_read), unfolding(rules::specs::Refusals::record_verdict, rules::specs::Refusals::request_verdict, rules::specs::Record::items_of))]
 pub fn verdict(req: &[u8]) -> Result<(), Refusal>
     ensures { result ≡ record_verdict current req.now }
 {
@@ -117,6 +123,7 @@ pub fn verdict(req: &[u8]) -> Result<(), Refusal>
 }
 
 // The fields and the count of items, or why there are none.
+#[tactic(auto, using(crate::proofs::FieldReads::accepted_long), unfolding(rules::specs::Applied::read_of, rules::specs::Applied::reading))]
 pub fn read(req: &[u8]) -> Result<(Request, usize), Refusal>
     ensures { read_by result ≡ read_of req.now }
 {
@@ -125,6 +132,7 @@ pub fn read(req: &[u8]) -> Result<(Request, usize), Refusal>
 }
 
 // The item number k of a record, 0 where the record ends before it.
+#[tactic(auto, unfolding(rules::specs::Applied::item_at))]
 pub fn item(req: &[u8], k: usize) -> u64
     ensures { result ≡ item_at req.now k }
 {

@@ -9,6 +9,7 @@ use rules::layout::{RECORD, RECORD_MARK, RECORD_VERSION, VERSION_1, VERSION_AT};
 const MARK_AT: usize = 0;
 
 // Bytes long enough for a record, with its mark and a version that is taken. The version's upper byte is zero and is read with the mark.
+#[tactic(auto, using(crate::proofs::FieldReads::mark_taken), unfolding(rules::specs::Record::record_marked))]
 pub fn marked(req: &[u8]) -> bool
     ensures { result ≡ record_marked current req.now }
 {
