@@ -81,6 +81,8 @@ fn pauses(next: Next) -> bool
     }
 }
 
+// Stays: a struct of the lent buffers is no plainer. `turn` alone would make one, and `one_turn(held, cells, &mut Lent { table, answer, text })`
+// would hand `open_table` an answer's buffer, which it may not touch.
 fn one_turn(
     held: Held,
     cells: Option<usize>,
