@@ -13,7 +13,7 @@ ghost use Rattle.rules.specs.Record.{cancel_zeros, identifier_to_sib, item_count
 ghost use Rattle.rules.specs.Refusals.{record_verdict, request_verdict};
 
 use crate::mark::marked;
-use octets::{any64, get8, get16, get32, get64};
+use octets::{any64, get};
 use record_judge::judged;
 use rules::layout::{
     AREA_AT, COUNT_AT, FLAGS_AT, IDENTIFIER_AT, ITEM, KIND_AT, LONGEST_PERIOD, LONGEST_PERIOD_1,
@@ -29,15 +29,15 @@ pub fn request(req: &[u8]) -> Request
     ensures { result ≡ request_of req.now }
 {
     Request {
-        kind: get8(req, KIND_AT),
-        flags: get8(req, FLAGS_AT),
-        area: get8(req, AREA_AT),
-        identifier: get16(req, IDENTIFIER_AT),
-        serial: get16(req, SERIAL_AT),
-        content: get32(req, RECORD_CONTENT_AT),
-        period: Seconds(get32(req, RECORD_PERIOD_AT)),
-        requested: Broadcasts(get16(req, RECORD_REQUESTED_AT)),
-        sib: get8(req, RECORD_SIB_AT),
+        kind: get(req, KIND_AT),
+        flags: get(req, FLAGS_AT),
+        area: get(req, AREA_AT),
+        identifier: get(req, IDENTIFIER_AT),
+        serial: get(req, SERIAL_AT),
+        content: get(req, RECORD_CONTENT_AT),
+        period: Seconds(get(req, RECORD_PERIOD_AT)),
+        requested: Broadcasts(get(req, RECORD_REQUESTED_AT)),
+        sib: get(req, RECORD_SIB_AT),
     }
 }
 
@@ -47,7 +47,7 @@ pub fn count(req: &[u8]) -> usize
     requires { record_size ≤ length req.now }
     ensures { result ≡ item_count req.now }
 {
-    get16(req, COUNT_AT) as usize
+    get::<u16>(req, COUNT_AT) as usize
 }
 
 // The longest period that a record may ask for: its own version says.
@@ -56,7 +56,7 @@ fn longest_asked(req: &[u8]) -> Seconds
     requires { record_size ≤ length req.now }
     ensures { result ≡ longest_asked req.now }
 {
-    if get16(req, VERSION_AT) == VERSION_1 as u16 {
+    if get::<u16>(req, VERSION_AT) == VERSION_1 as u16 {
         return Seconds(LONGEST_PERIOD_1);
     }
     Seconds(LONGEST_PERIOD)
@@ -70,7 +70,7 @@ fn no_text(req: &[u8]) -> bool
     requires { record_size ≤ length req.now }
     ensures { result ≡ zeros (identifier_to_sib (request_of req.now)) }
 {
-    (get64(req, IDENTIFIER_AT) == 0) & (get64(req, RECORD_SIB_AT + 1 - ITEM) == 0)
+    (get::<u64>(req, IDENTIFIER_AT) == 0) & (get::<u64>(req, RECORD_SIB_AT + 1 - ITEM) == 0)
 }
 
 // The fields are zero that a cancel leaves out: content and period at once, and so identifier and serial number.
@@ -79,9 +79,9 @@ fn cancel_zeros(req: &[u8]) -> bool
     requires { record_size ≤ length req.now }
     ensures { result ≡ zeros (cancel_zeros (request_of req.now)) }
 {
-    (get64(req, RECORD_CONTENT_AT) == 0)
-        & (get8(req, RECORD_SIB_AT) == 0)
-        & (request(req).notified() | (get32(req, IDENTIFIER_AT) == 0))
+    (get::<u64>(req, RECORD_CONTENT_AT) == 0)
+        & (get::<u8>(req, RECORD_SIB_AT) == 0)
+        & (request(req).notified() | (get::<u32>(req, IDENTIFIER_AT) == 0))
 }
 
 // The first of the refusals 5, 6 and 7 that applies to the fields and n items. The items are joined first: with no loop between it and the
@@ -116,7 +116,7 @@ pub fn verdict(req: &[u8]) -> Result<(), Refusal>
     if req.len() != RECORD + ITEM * n {
         return Err(Refusal::RecordLength);
     }
-    if get8(req, ZERO_AT) != 0 {
+    if get::<u8>(req, ZERO_AT) != 0 {
         return Err(Refusal::RecordFields);
     }
     fields_judged(req, n)
@@ -140,7 +140,7 @@ pub fn item(req: &[u8], k: usize) -> u64
         return 0;
     }
     if k < (req.len() - RECORD) / ITEM {
-        return get64(req, RECORD + ITEM * k);
+        return get::<u64>(req, RECORD + ITEM * k);
     }
     0
 }

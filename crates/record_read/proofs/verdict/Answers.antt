@@ -6,8 +6,8 @@ use Rattle.rules.specs.Refusals.{record_verdict}
 use Rattle.record_read.proofs.FieldReads.{zero_read}
 use Rattle.record_read.proofs.verdict.Goals as goal
 
-pub returns-then-get8-ne0 : goal.returns-then-get8-ne0
+pub returns-then-get-ne0 : goal.returns-then-get-ne0
 unfolding record_verdict
-returns-then-get8-ne0 c =
+returns-then-get-ne0 c =
     let zero = zero_read c.args.req.now (sym c.marked.ensures ∙ c.if-not-marked.false) in
     search rules
