@@ -4,22 +4,24 @@ use Rattle.std.specs.Prelude.{Ok, Err}
 use mathlib.Core.Path.{◌≡◌, sym, ◌∙◌}
 use mathlib.Core.Bool.{Bool, true, false, not, ◌&&◌, and_assoc, and-false}
 use mathlib.Core.List.{List}
-use Prim.Native.Nat.{ℕ, ◌+◌, ◌-◌, ◌*◌, ◌≤◌}
+use Prim.Native.Nat.{ℕ, ◌+◌, ◌-◌, ◌*◌, ◌≤◌, ◌<◌}
+use native.Mathlib.Nat.{mul-div_right}
 use native.Mathlib.Omega.{arith}
 use borrow.Author.Tests.{eqb-true, not-true, not-false}
 use lib.Dec.{eqb, leb}
-use lib.ListN.{length, take, drop}
+use lib.ListN.{length, take, drop, length-drop}
 use Rattle.octets.specs.Runs.{gets, pieces}
 use Rattle.octets.specs.Numbers.{be}
 use Rattle.octets.specs.Fields.{offset, field_of}
 use Rattle.octets.proofs.FieldsLaws.{field_at}
-use Rattle.rules.specs.Layout.{Version, version_number, cells_in_header, places_in_header, zero_in_header, header_fields, places_per_cell, header_size, cell_size, most_cells}
+use Rattle.rules.specs.Layout.{Version, version1, version2, version_number, cells_in_header, places_in_header, zero_in_header, header_fields, places_per_cell, header_size, cell_size, most_cells}
 use Rattle.rules.specs.Table.{cell_count, cell_runs, legal_cell, table_marked, legal_table}
 use Rattle.rules.specs.Refusals.{table_verdict}
 use Rattle.rules.specs.declared.Refusal.TheVariants.{TableMark, TableWrong}
 use Rattle.rules.proofs.TestLaws.{both}
 use Rattle.table_judge.specs.Judge.{legal_header, legal_runs}
 use Rattle.table_judge.proofs.PiecesLaws.{take_rest}
+use Rattle.table_judge.proofs.OrderLaws.{runs_in}
 
 module _ (v : Version) where
   table_parts : (t : List ℕ) → legal_table v t ≡ legal_header (cell_size v) t && legal_runs v (legal_cell v) (cell_runs v t)
@@ -36,42 +38,44 @@ module _ (v : Version) where
       let size = header_size + cell_size v * cell_count t in
       eqb-true (length t) size (both (few && four && spare) (eqb (length t) size) e).1
 
+  some : 0 < cell_size v
+  some = by_version v
+    where
+      by_version : (v : Version) → 0 < cell_size v
+      by_version version1 = omega arith
+      by_version version2 = omega arith
+
   -- the header was found legal
-  module _ (t : List ℕ) (h : Bool) (eh : h ≡ legal_header (cell_size v) t) (right : not h ≡ false) where
-    header : legal_header (cell_size v) t ≡ true
-    header = sym eh ∙ not-false h right
-
+  module _ (t : List ℕ) (header : true ≡ legal_header (cell_size v) t) where
     pub header-long : header_size ≤ length t
-    header-long = omega (arith, header-size t header)
+    header-long = omega (arith, header-size t (sym header))
 
-    count : (n : ℕ) → n ≡ be (gets t 5 2) → n ≡ cell_count t
-    unfolding offset
-    count n en = en ∙ sym (field_at header_fields cells_in_header t (omega (arith, header-long)))
+    -- the cells are as many as the header says
+    cells-count : runs_in (cell_size v) (take (length t - header_size) (drop header_size t)) ≡ cell_runs v t
+    cells-count =
+        let size : length (drop header_size t) ≡ cell_size v * cell_count t = rw length-drop (omega (arith, header-size t (sym header))) in
+        rw (take_rest, size, mul-div_right (cell_count t) some)
 
-    pub table-size : (n : ℕ) → n ≡ be (gets t 5 2) → length t ≡ header_size + cell_size v * n
-    table-size n en = rw (count n en) (header-size t header)
-
-  module _ (t : List ℕ) (m : Bool) (em : m ≡ table_marked (version_number v) t) where
-    pub unmarked : not m ≡ true → Err TableMark ≡ table_verdict v t
+  module _ (t : List ℕ) where
+    pub unmarked : false ≡ table_marked (version_number v) t → Err TableMark ≡ table_verdict v t
     unfolding table_verdict
-    unmarked e = rw (← em, not-true m e)
+    unmarked m = rw (← m)
 
-    module _ (marked : not m ≡ false) (h : Bool) (eh : h ≡ legal_header (cell_size v) t) where
+    module _ (m : true ≡ table_marked (version_number v) t) where
       refused : legal_table v t ≡ false → Err TableWrong ≡ table_verdict v t
       unfolding table_verdict
-      refused e = rw (← em, not-false m marked, e)
+      refused e = rw (← m, e)
 
-      pub header-wrong : not h ≡ true → Err TableWrong ≡ table_verdict v t
-      header-wrong e = refused (table_parts t ∙ rw (← eh, not-true h e))
+      pub header-wrong : false ≡ legal_header (cell_size v) t → Err TableWrong ≡ table_verdict v t
+      header-wrong h = refused (table_parts t ∙ rw (← h))
 
-      module _ (right : not h ≡ false) (n : ℕ) (en : n ≡ be (gets t 5 2))
-          (r : Bool) (er : r ≡ legal_runs v (legal_cell v) (pieces (cell_size v) n (take (length t - header_size) (drop header_size t)))) where
-        cells : r ≡ legal_runs v (legal_cell v) (cell_runs v t)
-        cells = er ∙ rw (take_rest, count t h eh right n en)
+      module _ (h : true ≡ legal_header (cell_size v) t) {r : Bool} (er : r ≡ legal_runs v (legal_cell v) (runs_in (cell_size v) (take (length t - header_size) (drop header_size t)))) where
+        cells : legal_table v t ≡ r
+        cells = table_parts t ∙ rw (← h, ← cells-count t h) (sym er)
 
-        pub cells-wrong : not r ≡ true → Err TableWrong ≡ table_verdict v t
-        cells-wrong e = refused (table_parts t ∙ rw (← cells, not-true r e, and-false))
+        pub cells-wrong : r ≡ false → Err TableWrong ≡ table_verdict v t
+        cells-wrong e = refused (cells ∙ e)
 
-        pub table_right : not r ≡ false → (Ok tt) ≡ table_verdict v t
+        pub table_right : r ≡ true → (Ok tt) ≡ table_verdict v t
         unfolding table_verdict
-        table_right e = rw (← em, not-false m marked, table_parts t, header t h eh right, ← cells, not-false r e)
+        table_right e = rw (← m, cells, e)

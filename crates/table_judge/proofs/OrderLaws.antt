@@ -2,26 +2,26 @@
 -- The invariant speaks of the runs still to come; a turn peels one.
 use mathlib.Core.Path.{◌≡◌, refl, sym, subst, ◌∙◌}
 use mathlib.Core.Bool.{Bool, true, false, not, ◌&&◌, and_assoc, and-false}
-use mathlib.Core.List.{List, [], ◌∷◌, map}
-use Prim.Native.Nat.{ℕ, ◌+◌, ◌-◌, ◌*◌, ◌≤◌, ◌<◌}
+use mathlib.Core.List.{List, [], ◌∷◌, ◌++◌, map}
+use Prim.Native.Nat.{ℕ, suc, ◌+◌, ◌/◌, ◌≤◌, ◌<◌}
+use native.Mathlib.Nat.{add-div_left, div-eq_of_lt}
 use native.Mathlib.Numerals.{add-one}
 use native.Mathlib.Omega.{arith}
-use borrow.Author.Tests.{ltb-true, ltb-false, le-leb, lt-leb, not-true, not-false}
-use lib.Dec.{ltb, leb, leb-zero}
-use lib.ListN.{length, take, drop}
-use lib.Seq.{take-take}
+use borrow.Author.Tests.{le-leb, lt-leb}
+use lib.Dec.{leb, leb-zero}
+use lib.ListN.{length, take, length-append}
+use lib.Seq.{take_at, drop_at}
 use Rattle.octets.specs.Runs.{pieces}
 use Rattle.octets.specs.Fields.{size, field_of}
 use Rattle.octets.proofs.FieldsLaws.{numbers-take}
 use Rattle.rules.specs.Lists.{every, above, ascending}
-use Rattle.rules.specs.Layout.{Version, head_fields, head_size, cell_end}
+use Rattle.rules.specs.Layout.{Version, current, head_fields, head_size, cell_end}
 use Rattle.rules.specs.Table.{Head, head_of, legal_head, legal_cell, identity_at}
 use Rattle.rules.proofs.HeadCodec.{legal-head}
 use Rattle.rules.proofs.CellCodec.{legal-cell}
 use Rattle.rules.proofs.LayoutLaws.{head-size}
 use Rattle.table_judge.specs.Judge.{legal_runs}
-use Rattle.octets.proofs.PiecesLaws.{pieces_more, pieces_none}
-use Rattle.table_judge.proofs.PiecesLaws.{piece-fits}
+use Rattle.octets.proofs.PiecesLaws.{pieces_none}
 
 -- strictly ascending, and none below a bound
 unfoldable pub rising_from : ℕ → List ℕ → Bool
@@ -41,58 +41,49 @@ ascending-rising (x ∷ xs) = rw (leb-zero x) (above-rising x xs)
 unfoldable pub legal_from : Version → (List ℕ → Bool) → ℕ → List (List ℕ) → Bool
 legal_from v f least bs = every f bs && rising_from least (map (identity_at v) bs)
 
-module _ (v : Version) where
-  -- the first `count` runs of w bytes, of which those from `at` on are left
-  pub record RunsLeft (f : List ℕ → Bool) (w count : ℕ) (l : List ℕ) (at left least : ℕ) : Type 0 where
-    pub fits : at + w * left ≡ length l
-    pub rest : legal_runs v f (pieces w count l) ≡ legal_from v f least (pieces w left (drop at l))
+-- the runs of w bytes that a list holds
+abbrev pub runs_in : ℕ → List ℕ → List (List ℕ)
+runs_in w l = pieces w (length l / w) l
 
-  pub runs-start : (f : List ℕ → Bool) (w count : ℕ) (l : List ℕ) → length l ≡ w * count → RunsLeft f w count l 0 count 0
-  unfolding legal_runs legal_from
-  runs-start f w count l e = record { fits = omega arith; rest = rw ascending-rising }
+runs_more : (w : ℕ) (x rest : List ℕ) → 0 < w → length x ≡ w → runs_in w (x ++ rest) ≡ x ∷ runs_in w rest
+unfolding pieces
+runs_more w x rest some long =
+    let more : length (x ++ rest) / w ≡ suc (length rest / w) = rw (length-append, long, add-div_left (length rest) some) (add-one (length rest / w)) in
+    rw (more, take_at x rest w long, drop_at x rest w long)
 
-  pub runs-end : {f : List ℕ → Bool} {w count : ℕ} {l : List ℕ} {at left least : ℕ} → RunsLeft f w count l at left least → left ≤ 0
-      → legal_runs v f (pieces w count l) ≡ true
+runs_none : (w : ℕ) (l : List ℕ) → length l < w → runs_in w l ≡ []
+runs_none w l short = rw (div-eq_of_lt short) (pieces_none w 0 l (omega arith))
+
+-- the runs in l are judged as those are that are left, none below the least
+pub record RunsLeft (f : List ℕ → Bool) (w : ℕ) (l rest : List ℕ) (least : ℕ) : Type 0 where
+  pub same : legal_runs current f (runs_in w l) ≡ legal_from current f least (runs_in w rest)
+
+pub runs-start : (f : List ℕ → Bool) (w : ℕ) (l : List ℕ) → RunsLeft f w l l 0
+unfolding legal_runs legal_from
+runs-start f w l = record { same = rw ascending-rising }
+
+pub runs-end : {f : List ℕ → Bool} {w : ℕ} {l rest : List ℕ} {least : ℕ} → RunsLeft f w l rest least → length rest < w → legal_runs current f (runs_in w l) ≡ true
+unfolding legal_from every rising_from
+runs-end {w} {rest} p short = p.same ∙ rw (runs_none w rest short)
+
+-- a turn: x is the run that it meets, r those behind, and i the NR CGI of x
+module _ {f : List ℕ → Bool} {w : ℕ} {l rest : List ℕ} {least : ℕ} (p : RunsLeft f w l rest least) (wide : head_size current ≤ w)
+    (x r : List ℕ) (met : rest ≡ x ++ r) (long : length x ≡ w) (i : ℕ) (ei : i ≡ identity_at current x) where
+  turn : legal_runs current f (runs_in w l) ≡ (f x && every f (runs_in w r)) && (leb least i && rising_from (i + 1) (map (identity_at current) (runs_in w r)))
   unfolding legal_from every rising_from
-  runs-end {w} {l} {at} {left} p h = p.rest ∙ rw (pieces_none w left (drop at l) h)
+  turn = p.same ∙ rw (met, runs_more w x r (omega arith) long, ← ei)
 
-  module _ {f : List ℕ → Bool} {w count : ℕ} {l : List ℕ} {at left least : ℕ} (p : RunsLeft f w count l at left least) (h : 0 < left) (wide : head_size v ≤ w) where
-    here : (at + w ≤ length l) × (at + w + w * (left - 1) ≡ length l)
-    here = piece-fits w at left p.fits h
+  pub runs-below : i < least → legal_runs current f (runs_in w l) ≡ false
+  runs-below b = turn ∙ rw (lt-leb least i b, and-false)
 
-    identity_here : identity_at v (drop at l) ≡ identity_at v (take w (drop at l))
-    unfolding head_of
-    identity_here = rw (take-take (head_size v) w (drop at l) wide)
+  pub runs-wrong : f x ≡ false → legal_runs current f (runs_in w l) ≡ false
+  runs-wrong e = turn ∙ rw e
 
-    -- what the code learnt here: the NR CGI i, whether it is too low, and r, whether the run that it lent is legal
-    module _ (i : ℕ) (ei : i ≡ identity_at v (drop at l)) (low : Bool) (el : low ≡ ltb i least) where
-      pub runs-below : low ≡ true → legal_runs v f (pieces w count l) ≡ false
-      unfolding legal_from every rising_from
-      runs-below b =
-          p.rest
-          ∙ rw (pieces_more w left at l h, ← identity_here, ← ei, lt-leb least i (ltb-true i least (sym el ∙ b)), and-false)
+  pub runs_on : least ≤ i → f x ≡ true → RunsLeft f w l r (i + 1)
+  unfolding legal_from
+  runs_on b e = record { same = turn ∙ rw (e, le-leb least i b) }
 
-      module _ (b : low ≡ false) (r : Bool) (er : r ≡ f (take (at + w - at) (drop at l))) where
-        turn : legal_runs v f (pieces w count l) ≡ r && legal_from v f (i + 1) (pieces w (left - 1) (drop (at + w) l))
-        unfolding legal_from every rising_from
-        turn =
-            let k : at + w - at ≡ w = omega arith in
-            p.rest
-            ∙ rw (pieces_more w left at l h, ← identity_here, ← ei, le-leb least i (ltb-false i least (sym el ∙ b)), er, k)
-            (and_assoc (f (take w (drop at l))) _ _)
-
-        pub runs-wrong : not r ≡ true → legal_runs v f (pieces w count l) ≡ false
-        runs-wrong e = turn ∙ rw (not-true r e)
-
-        pub runs_on : not r ≡ false → (next : ℕ) → next ≡ i + 1 → RunsLeft f w count l (at + w) (left - 1) next
-        runs_on e next n = rw n (record { fits = here.1; rest = turn ∙ rw (not-false r e) })
-
-        -- an NR CGI that passed is small
-        pub runs-small : ((c : List ℕ) → f c ≡ true → identity_at v c < cell_end) → not r ≡ false → i < cell_end
-        runs-small small e =
-            let k : at + w - at ≡ w = omega arith in
-            rw (ei, identity_here) (small (take w (drop at l)) (rw k at (sym er ∙ not-false r e)))
-
+module _ (v : Version) where
   -- ---- the two tests of a run
 
   -- a head's own bytes say its NR CGI

@@ -1,15 +1,15 @@
 // The judge of a table: each rule of document 01, "The table", is tested where the bytes stand, in one pass.
 #![tactic(auto)]
 
-ghost use Rattle.std.specs.Prelude.{◌≡◌, ◌+◌, ◌*◌, ◌≤◌, length, drop};
+ghost use Rattle.std.specs.Prelude.{true, ◌≡◌, ◌+◌, ◌*◌, ◌/◌, ◌<◌, ◌≤◌, length, drop};
 ghost use Rattle.octets.specs.Numbers.{be};
 ghost use Rattle.octets.specs.Runs.{gets, pieces};
 ghost use Rattle.rules.specs.Lists.{larger, every};
-ghost use Rattle.rules.specs.Layout.{current, head_size, place_size, places_per_cell, cell_size};
+ghost use Rattle.rules.specs.Layout.{current, head_size, place_size, places_per_cell, cell_size, cell_end};
 ghost use Rattle.rules.specs.Table.{identity_at, all_areas, legal_head, place_of, is_free, legal_place, legal_places, legal_cell, table_marked};
 ghost use Rattle.rules.specs.Identity.{identity_number};
 ghost use Rattle.rules.specs.Refusals.{table_verdict};
-ghost use Rattle.table_judge.specs.Judge.{legal_areas, legal_live, legal_header, legal_runs};
+ghost use Rattle.table_judge.specs.Judge.{legal_areas, legal_live, legal_header, legal_runs, IsTest};
 
 use octets::{BYTES_32, BYTES_64, get8, get16, get32, get64};
 use rules::layout::{
@@ -40,8 +40,7 @@ pub fn verdict(table: &[u8]) -> Result<(), Refusal>
     if !header_legal(table, CELL) {
         return Err(Refusal::TableWrong);
     }
-    let count = get16(table, CELLS_AT) as usize;
-    if !cells_legal(&table[HEADER..], count) {
+    if !runs_legal(&table[HEADER..], CELL, cell_legal) {
         return Err(Refusal::TableWrong);
     }
     Ok(())
@@ -72,26 +71,24 @@ pub fn header_legal(table: &[u8], cell: usize) -> bool
         & (table.len() == HEADER + cell * count)
 }
 
-// `least` is the least NR CGI that may follow.
-fn cells_legal(cells: &[u8], count: usize) -> bool
-    requires { length cells.now ≡ cell_size current * count }
-    ensures { result ≡ legal_runs current (legal_cell current) (pieces (cell_size current) count cells.now) }
+// Runs of one size back to back, cells or heads of some version: each legal by the caller's test, and in order.
+// `least` is the least NR CGI that may follow. The builder and the converter ask this too.
+pub fn runs_legal<F: Fn(&[u8]) -> bool>(runs: &[u8], size: usize, legal: F) -> bool
+    requires heads_whole { head_size current ≤ size }
+    requires may_be_asked { (run : _) → length run.now ≡ size → F.pre legal run }
+    requires has_a_next { (run : _) → F.post legal run true → identity_at current run.now < cell_end }
+    ensures { (test : _) → IsTest F.Fn legal test → result ≡ legal_runs current test (pieces size (length runs.now / size) runs.now) }
 {
-    let mut at: usize = 0;
-    let mut left = count;
     let mut least = CellIdentity(0);
-    while 0 < left {
-        let end = at + CELL;
-        let identity = identity_at(cells, at);
-        if identity.below(least) {
+    for run in runs.chunks_exact(size) {
+        let identity = identity_at(run, 0);
+        if identity < least {
             return false;
         }
-        if !cell_legal(&cells[at..end]) {
+        if !legal(run) {
             return false;
         }
         least = identity.next();
-        at = end;
-        left -= 1;
     }
     true
 }
