@@ -3,7 +3,7 @@
 use mathlib.Core.Path.{◌≡◌, refl, sym, subst, ◌∙◌}
 use mathlib.Core.Bool.{Bool, true, false, not, ◌&&◌, and_assoc, and-false}
 use mathlib.Core.List.{List, [], ◌∷◌, ◌++◌, map}
-use Prim.Native.Nat.{ℕ, suc, ◌+◌, ◌/◌, ◌≤◌, ◌<◌}
+use Prim.Native.Nat.{ℕ, ◌+◌, ◌/◌, ◌≤◌, ◌<◌}
 use native.Mathlib.Nat.{add-div_left, div-eq_of_lt}
 use native.Mathlib.Numerals.{add-one}
 use native.Mathlib.Omega.{arith}
@@ -45,13 +45,15 @@ legal_from v f least bs = every f bs && rising_from least (map (identity_at v) b
 abbrev pub runs_in : ℕ → List ℕ → List (List ℕ)
 runs_in w l = pieces w (length l / w) l
 
-runs_more : (w : ℕ) (x rest : List ℕ) → 0 < w → length x ≡ w → runs_in w (x ++ rest) ≡ x ∷ runs_in w rest
-unfolding pieces
-runs_more w x rest some long =
-    let more : length (x ++ rest) / w ≡ suc (length rest / w) = rw (length-append, long, add-div_left (length rest) some) (add-one (length rest / w)) in
-    rw (more, take_at x rest w long, drop_at x rest w long)
+-- one more
+pub count-more : (w : ℕ) (x rest : List ℕ) → 0 < w → length x ≡ w → length (x ++ rest) / w ≡ length rest / w + 1
+count-more w x rest some long = rw (length-append, long, add-div_left (length rest) some)
 
-runs_none : (w : ℕ) (l : List ℕ) → length l < w → runs_in w l ≡ []
+pub runs_more : (w : ℕ) (x rest : List ℕ) → 0 < w → length x ≡ w → runs_in w (x ++ rest) ≡ x ∷ runs_in w rest
+unfolding pieces
+runs_more w x rest some long = rw (count-more w x rest some long, add-one (length rest / w), take_at x rest w long, drop_at x rest w long)
+
+pub runs_none : (w : ℕ) (l : List ℕ) → length l < w → runs_in w l ≡ []
 runs_none w l short = rw (div-eq_of_lt short) (pieces_none w 0 l (omega arith))
 
 -- the runs in l are judged as those are that are left, none below the least

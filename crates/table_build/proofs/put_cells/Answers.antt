@@ -1,16 +1,19 @@
--- `put_cells` stores an empty cell for each head behind the header, and nothing else.
+-- `put_cells` stores a cell for each run behind the header, and nothing else.
 -- The invariant, `CellsLeft`: what is stored is, with what is left, the whole.
-use Rattle.rules.specs.Layout.{current, head_size}
-use Rattle.table_build.specs.Build.{empty_run}
-use Rattle.table_build.proofs.BuildLaws.{length-empty_run, cells-start, cells_on, cells-end}
+use mathlib.Core.Path.{sym, ◌∙◌}
+use Rattle.std.proofs.Common.{rules}
+use Rattle.table_build.proofs.BuildLaws.{one_made, cells_on, cells-end}
 use Rattle.table_build.proofs.put_cells.Goals as goal
 
-pub loop-left-init : goal.loop-left-init
-loop-left-init c = cells-start empty_run (head_size current) _ _ _ c.requires.0 c.requires.1
-
-pub loop-left-preserved : goal.loop-left-preserved
-loop-left-preserved c =
-    cells_on empty_run (head_size current) length-empty_run c.loop-left.invariant c.loop-left-test.true _ c.put_cell.ensures
+pub loop-k-preserved : goal.loop-k-preserved
+loop-k-preserved g c =
+    let step = c.in-Some.ensures.steps in
+    let long = step.0.1.1 ∙ c.loop-k.invariant.0 in
+    (
+      step.0.0 ∙ c.loop-k.invariant.0,
+      one_made _ _ _ _ _ c.requires.not_endless step.0.1.0 long c.loop-k.invariant.1 step.2,
+      λ made is_maker. cells_on (c.loop-k.invariant.2 made is_maker) _ _ c.requires.not_endless step.0.1.0 long _ (is_maker _ _ _ c.make.ensures) (search rules) step.1 (search rules) step.2,
+    )
 
 pub returns : goal.returns
-returns c = cells-end empty_run (head_size current) c.loop-left.invariant c.loop-left-test.false
+returns g c made is_maker = cells-end (c.loop-k.invariant.2 made is_maker) (rw c.loop-k.invariant.0 at c.in-None.ensures.steps.0.1.0)

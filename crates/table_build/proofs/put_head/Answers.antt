@@ -1,10 +1,7 @@
 -- `put_head` stores the head at the start of the cell, and nothing else.
--- Eight bytes that are read and stored are the same bytes, and three such stores are one: `head-stored`.
+-- What is copied to the front is stored there: `head-stored`.
 use Rattle.table_build.proofs.BuildLaws.{head-stored}
 use Rattle.table_build.proofs.put_head.Goals as goal
 
 pub returns : goal.returns
-returns c =
-    head-stored c.args.cell.now c.args.head.now (λ i. (c.shared_slice_known-1.given i).fits) c.requires.0
-    c.get64.ensures c.get64-2.ensures c.get64-3.ensures
-    c.put64.ensures c.put64-2.ensures c.put64-3.ensures
+returns c = head-stored c.args.cell.now c.args.head.now _ c.requires.0 c.requires.1 c.copy_from_slice.ensures.after

@@ -30,5 +30,5 @@ put_cells-requires c =
 
 pub returns : goal.returns
 returns c =
-    table-converted _ c.requires (λ i. (c.shared_slice_known-1.given i).fits) _ c.get16-count.ensures (omega (arith, c.if-table-length.false))
+    table-converted _ c.requires (λ i. (c.type_inv.old i).fits) _ c.get16-count.ensures (omega (arith, c.if-table-length.false))
     c.put_header.ensures c.put_cells.ensures

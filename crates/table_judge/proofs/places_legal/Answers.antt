@@ -7,7 +7,7 @@ use Rattle.table_judge.proofs.PlacesLaws.{places-start, places-free, places-wron
 use Rattle.table_judge.proofs.places_legal.Goals as goal
 
 pub loop-left-init : goal.loop-left-init
-loop-left-init c = places-start _ (λ i. (c.shared_slice_known-1.given i).fits) c.requires
+loop-left-init c = places-start _ (λ i. (c.type_inv.places i).fits) c.requires
 
 pub all_free-requires : goal.all_free-requires
 all_free-requires c = (omega arith, omega arith, omega arith)

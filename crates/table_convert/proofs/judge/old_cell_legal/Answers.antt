@@ -14,4 +14,4 @@ head_legal-requires c = head-long c.args.cell.now c.requires.1
 pub returns : goal.returns
 returns c =
     rw (c.head_legal.ensures, c.periods_short.ensures, c.places_legal.ensures, c.widen_places.ensures)
-    (legal-wide c.args.cell.now (λ i. (c.shared_slice_known-1.given i).fits) c.requires.1)
+    (legal-wide c.args.cell.now (λ i. (c.type_inv.cell i).fits) c.requires.1)
