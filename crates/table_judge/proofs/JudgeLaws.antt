@@ -45,16 +45,14 @@ module _ (v : Version) where
       by_version version1 = omega arith
       by_version version2 = omega arith
 
-  -- the header was found legal
-  module _ (t : List ℕ) (header : true ≡ legal_header (cell_size v) t) where
-    pub header-long : header_size ≤ length t
-    header-long = omega (arith, header-size t (sym header))
+  -- the runs behind the header are the cells that it counts
+  pub runs-cells : (t : List ℕ) → length t ≡ header_size + cell_size v * cell_count t → runs_in (cell_size v) (take (length t - header_size) (drop header_size t)) ≡ cell_runs v t
+  runs-cells t e =
+      let size : length (drop header_size t) ≡ cell_size v * cell_count t = rw length-drop (omega arith) in
+      rw (take_rest, size, mul-div_right (cell_count t) some)
 
-    -- the cells are as many as the header says
-    cells-count : runs_in (cell_size v) (take (length t - header_size) (drop header_size t)) ≡ cell_runs v t
-    cells-count =
-        let size : length (drop header_size t) ≡ cell_size v * cell_count t = rw length-drop (omega (arith, header-size t (sym header))) in
-        rw (take_rest, size, mul-div_right (cell_count t) some)
+  pub header-long : (t : List ℕ) → true ≡ legal_header (cell_size v) t → header_size ≤ length t
+  header-long t h = omega (arith, header-size t (sym h))
 
   module _ (t : List ℕ) where
     pub unmarked : false ≡ table_marked (version_number v) t → Err TableMark ≡ table_verdict v t
@@ -71,7 +69,7 @@ module _ (v : Version) where
 
       module _ (h : true ≡ legal_header (cell_size v) t) {r : Bool} (er : r ≡ legal_runs v (legal_cell v) (runs_in (cell_size v) (take (length t - header_size) (drop header_size t)))) where
         cells : legal_table v t ≡ r
-        cells = table_parts t ∙ rw (← h, ← cells-count t h) (sym er)
+        cells = table_parts t ∙ rw (← h, ← runs-cells t (header-size t (sym h))) (sym er)
 
         pub cells-wrong : r ≡ false → Err TableWrong ≡ table_verdict v t
         cells-wrong e = refused (cells ∙ e)

@@ -1,7 +1,8 @@
 -- `converted` leaves and answers what `conversion` says of an accepted table: 8, else the same cells, whole.
 -- Each way out is the case of the verdict that its test leads to; few cells make every sum fit.
 use native.Mathlib.Omega.{arith}
-use Rattle.table_convert.proofs.ConvertLaws.{old-size, old-few, old-count, room-short, table-converted}
+use Rattle.table_convert.specs.Wide.{wide_cell}
+use Rattle.table_convert.proofs.ConvertLaws.{old-size, runs-count, old-few, old-count, room-short, table-converted}
 use Rattle.table_convert.proofs.converted.Goals as goal
 
 pub get16-count-requires : goal.get16-count-requires
@@ -22,13 +23,13 @@ slice_bounds-put_cells-count c = let size = old-size _ c.requires in omega arith
 pub slice_bounds-put_cells-start : goal.slice_bounds-put_cells-start
 slice_bounds-put_cells-start c = let size = old-size _ c.requires in omega arith
 
-pub put_cells-requires : goal.put_cells-requires
-put_cells-requires c =
-    let size = old-size _ c.requires in
+pub put_cells-requires-clause-room : goal.put_cells-requires-clause-room
+put_cells-requires-clause-room c =
     let few = old-count _ c.requires c.get16-count.ensures in
-    (omega arith, omega arith)
+    let runs = runs-count _ c.requires in
+    omega arith
 
 pub returns : goal.returns
 returns c =
     table-converted _ c.requires (λ i. (c.type_inv.old i).fits) _ c.get16-count.ensures (omega (arith, c.if-table-length.false))
-    c.put_header.ensures c.put_cells.ensures
+    c.put_header.ensures (c.put_cells.ensures wide_cell (λ cell run left e. e))
