@@ -2,6 +2,7 @@
 use mathlib.Core.Path.{◌≡◌, refl, sym, ap, ◌∙◌}
 use mathlib.Core.Bool.{false, cond}
 use mathlib.Core.List.{List, ◌∷◌}
+use Rattle.std.specs.Prelude.{Option, Some}
 use Prim.Native.Nat.{ℕ, suc, ◌+◌, ◌≤◌, ◌<◌}
 use native.Mathlib.Omega.{arith}
 use native.Mathlib.Numerals.{add-one}
@@ -12,8 +13,7 @@ use Rattle.formats.specs.Summary.{summed}
 use Rattle.formats.specs.Format.{Found, nothing, found, after, number, only, as_if, behind, several, times}
 use Rattle.aper.specs.Elements.{Element, from_one, extension, Extensions, most_extensions, container, presence, optional, given, marked}
 use Rattle.aper.specs.Readers.{RunAt, GivenAt}
-use Rattle.aper.specs.declared.Run.{Run}
-use Rattle.aper.specs.declared.Run.TheVariants.{Upto}
+use Rattle.aper.specs.declared.Extensions.{Extensions as Run}
 
 -- what stands behind a test that it passes
 kept : Found Extensions → Found Extensions
@@ -40,7 +40,7 @@ container-kept l = counted ((only (λ m. ltb m most_extensions) (number 2)).pars
     counted (found m r) = rw (add-one m) (some-kept m r)
 
 module _ (l : List ℕ) (at : ℕ) where
-  pub given-none : at ≤ length l → (p : ℕ) → p ≡ 0 → GivenAt l at p (Upto at false)
+  pub given-none : at ≤ length l → (p : ℕ) → p ≡ 0 → GivenAt l at p (Some (record { end = at; rejected = false }))
   given-none h p e = record { says = sym (absent p e); lies = h }
     where
       absent : (p : ℕ) → p ≡ 0 → summed (any marked) ((given p).parse (drop at l)) ≡ found false (drop at l)
@@ -50,7 +50,7 @@ module _ (l : List ℕ) (at : ℕ) where
   unfolding given only optional kept
   one-given p e = rw e (container-kept (drop at l))
 
-  pub given-one : (r : Run) → RunAt l at r → (p : ℕ) → p < 2 → (p ≡ 0 → ⊥) → GivenAt l at p r
+  pub given-one : (r : Option Run) → RunAt l at r → (p : ℕ) → p < 2 → (p ≡ 0 → ⊥) → GivenAt l at p r
   given-one r read p small other =
       let e : p ≡ 1 = omega (arith, other) in
       record { says = read.says ∙ ap (summed (any marked)) (sym (one-given p e)); lies = read.lies }

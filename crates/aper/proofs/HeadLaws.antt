@@ -1,6 +1,7 @@
 -- An element with few bytes of contents is told by one number: its first four bytes are its id, its criticality and its length.
 use mathlib.Core.Path.{◌≡◌, refl, sym, subst}
 use mathlib.Core.List.{List}
+use Rattle.std.specs.Prelude.{Some}
 use Prim.Native.Nat.{ℕ, ◌+◌, ◌-◌, ◌*◌, ◌/◌, ◌%◌, ◌<◌, ◌≤◌}
 use native.Mathlib.Omega.{arith}
 use lib.ListN.{length, get_or}
@@ -8,8 +9,6 @@ use Rattle.octets.specs.Runs.{gets, Bytes}
 use Rattle.octets.specs.Numbers.{be}
 use Rattle.octets.proofs.NumbersLaws.{be-run, be-gets_lt}
 use Rattle.aper.specs.Readers.{LengthAt, ElementAt}
-use Rattle.aper.specs.declared.Length.TheVariants.{Of}
-use Rattle.aper.specs.declared.Step.TheVariants.{One}
 use Rattle.aper.proofs.LengthLaws.{length-short}
 use Rattle.aper.proofs.StepLaws.{one-there}
 
@@ -30,14 +29,14 @@ module _ (l : List ℕ) (at id size : ℕ) (bytes : Bytes l) (long : at + (4 + s
       let byte : be (gets l (at + 3) 1) < 256 = be-gets_lt 1 (at + 3) l bytes in
       (omega arith, omega arith, omega (arith, one_byte l (at + 3)))
 
-  shortly : LengthAt l (at + 3) (Of size (at + 4))
+  shortly : LengthAt l (at + 3) (Some (record { of = size; start = at + 4 }))
   shortly =
       let e : at + 3 + 1 ≡ at + 4 = omega arith in
-      subst (λ (start : ℕ). LengthAt l (at + 3) (Of size start)) e (length-short l (at + 3) size (omega arith) (sym parts.2) short)
+      subst (λ (start : ℕ). LengthAt l (at + 3) (Some (record { of = size; start = start }))) e (length-short l (at + 3) size (omega arith) (sym parts.2) short)
 
-  pub short-element : ElementAt l at (One id (be (gets l (at + 2) 1) / 64) (at + 4) (at + (4 + size)))
+  pub short-element : ElementAt l at (Some (record { id = id; criticality = be (gets l (at + 2) 1) / 64; start = at + 4; end = at + (4 + size) }))
   short-element =
       let e : at + 4 + size ≡ at + (4 + size) = omega arith in
       let fits : size ≤ length l - (at + 4) = omega arith in
-      subst (λ (end : ℕ). ElementAt l at (One id (be (gets l (at + 2) 1) / 64) (at + 4) end)) e
-      (one-there l at id (be (gets l (at + 2) 1)) (omega arith) (sym parts.0) refl parts.1 size (at + 4) shortly some fits)
+      subst (λ (end : ℕ). ElementAt l at (Some (record { id = id; criticality = be (gets l (at + 2) 1) / 64; start = at + 4; end = end }))) e
+      (one-there l at id (be (gets l (at + 2) 1)) (omega arith) (sym parts.0) refl parts.1 (record { of = size; start = at + 4 }) shortly some fits)

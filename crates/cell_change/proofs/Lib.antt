@@ -1,4 +1,3 @@
-pub mod WordsLaws
 pub mod CountsLaws
 pub mod AddedLaws
 pub mod Moving

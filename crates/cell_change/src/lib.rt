@@ -2,56 +2,23 @@
 #![tactic(auto)]
 
 ghost use Rattle.std.specs.Prelude.{◌≡◌, [], ◌∷◌, ◌++◌, ◌+◌, ◌≤◌, ◌<◌, length};
-ghost use Rattle.std.proofs.lemmas.List.Edits.{sets};
-ghost use Rattle.octets.specs.Runs.{gets};
 ghost use Rattle.rules.specs.Layout.{current, place_size, places_per_cell, cell_size};
 ghost use Rattle.rules.specs.Table.{place_of, place_bytes, free_bytes};
 ghost use Rattle.rules.specs.InCell.{with_counts};
 ghost use Rattle.cell_read.specs.Places.{live_places, with_places, with_place, place_from, place_at, LiveAt, FreeAt, OnePlace, without};
-ghost use Rattle.cell_change.specs.Words.{word_bytes};
 
-use octets::{BYTES_64, get64, put8, put16, put32, put64};
+use octets::{put8, put16, put32};
 use rules::layout::{
-    CONTENT_AT, HEAD, LIVE_AT, PERIOD_AT, PLACE, PLACE_SERIAL_AT, PLACES, REQUESTED_AT, SENT_AT,
+    CELL, CONTENT_AT, HEAD, LIVE_AT, PERIOD_AT, PLACE, PLACE_SERIAL_AT, REQUESTED_AT, SENT_AT,
     SIB_AT, WAIT_AT,
 };
 use rules::{Broadcasts, Place, Seconds};
 
-const LAST: usize = PLACES - 1;
-
 // The mark of a live place.
 const LIVE: u8 = 1;
 
-// The bytes of a place as they are moved.
-#[derive(Drop)]
-struct Words {
-    first: u64,
-    second: u64,
-    third: u64,
-}
-
-fn load(from: &[u8], at: usize) -> Words
-    requires { at + place_size current ≤ length from.now }
-    ensures { word_bytes result ≡ gets from.now at (place_size current) }
-{
-    Words {
-        first: get64(from, at),
-        second: get64(from, at + BYTES_64),
-        third: get64(from, at + 2 * BYTES_64),
-    }
-}
-
-fn store(to: &mut [u8], at: usize, words: Words)
-    requires { at + place_size current ≤ length to.old }
-    ensures { to.new ≡ sets to.old at (word_bytes words) }
-{
-    put64(to, at, words.first);
-    put64(to, at + BYTES_64, words.second);
-    put64(to, at + 2 * BYTES_64, words.third);
-}
-
 // What a second changes.
-#[derive(Drop)]
+#[derive(Clone, Copy)]
 pub struct Counts {
     pub sent: Broadcasts,
     pub wait: Seconds,
@@ -77,38 +44,16 @@ pub fn drop_place(cell: &mut [u8], k: usize)
     requires { LiveAt cell.old k }
     ensures { cell.new ≡ with_places cell.old (without k (live_places cell.old)) }
 {
-    let mut to = k;
-    while to < LAST {
-        let at = HEAD + PLACE * to;
-        let next = load(cell, at + PLACE);
-        store(cell, at, next);
-        to += 1;
-    }
-    clear(cell, LAST);
-}
-
-// The bytes of a free place.
-fn clear(cell: &mut [u8], k: usize)
-    requires { (length cell.old ≡ cell_size current) × (k < places_per_cell) }
-    ensures { cell.new ≡ sets cell.old (place_from k) (free_bytes current) }
-{
-    let none = Words {
-        first: 0,
-        second: 0,
-        third: 0,
-    };
-    store(cell, HEAD + PLACE * k, none);
+    let from = HEAD + PLACE * k;
+    cell.copy_within(from + PLACE..CELL, from);
+    cell[CELL - PLACE..CELL].fill(0);
 }
 
 pub fn free_all(cell: &mut [u8])
     requires { length cell.old ≡ cell_size current }
     ensures { cell.new ≡ with_places cell.old [] }
 {
-    let mut k = 0;
-    while k < PLACES {
-        clear(cell, k);
-        k += 1;
-    }
+    cell[HEAD..CELL].fill(0);
 }
 
 // `new` has the bytes of the place.
@@ -117,11 +62,12 @@ pub fn add_place(cell: &mut [u8], k: usize, new: &[u8])
     requires one_place { OnePlace new.now }
     ensures { cell.new ≡ with_places cell.old (live_places cell.old ++ (place_of current new.now ∷ [])) }
 {
-    let words = load(new, 0);
-    store(cell, HEAD + PLACE * k, words);
+    let at = HEAD + PLACE * k;
+    cell[at..at + PLACE].copy_from_slice(&new[..PLACE]);
 }
 
 // The bytes of a live place, as `add_place` takes them.
+// Stays: a function and no `From`, since `Place` and arrays are types of other crates, and `place_bytes` is named by docs/DECISIONS.md.
 pub fn place_bytes(place: Place) -> [u8; PLACE]
     ensures { result ≡ place_bytes current place }
 {

@@ -1,6 +1,7 @@
 -- One outcome only: what a public function of this crate returns, its contract settles.
 -- Most promises are one equation, between what is returned and a definition; of a struct each field is settled.
-use mathlib.Core.Path.{◌≡◌}
+use native.Mathlib.Omega.{arith}
+use Rattle.std.specs.Prelude.{Ok, Err}
 use Rattle.octets.specs.Settled.{SettlesResult}
 use Rattle.octets.proofs.Once.{one-outcome}
 use Rattle.cell_read.proofs.is_live.Reads as is_live
@@ -37,12 +38,10 @@ pub terms_of_once : SettlesResult terms_of_lem.Learnt
 terms_of_once κ args r s e f p q = rw (p.0, p.1, q.0, q.1)
 
 pub seek_once : SettlesResult seek.Learnt
-seek_once κ args r s e f p q = rw (p.1, p.0, q.1, q.0)
+seek_once κ args (Ok x) (Ok y) e f p q = cc
+seek_once κ args (Err x) (Err y) e f p q = cc
+seek_once κ args (Ok x) (Err y) e f p q = absurd (omega (arith, p.0, q.1))
+seek_once κ args (Err x) (Ok y) e f p q = absurd (omega (arith, p.1, q.0))
 
 pub areas_of_once : SettlesResult areas_of_lem.Learnt
-areas_of_once κ args r s e f p q =
-    let e₁ : r.first ≡ s.first = cc in
-    let e₂ : r.second ≡ s.second = cc in
-    let e₃ : r.third ≡ s.third = cc in
-    let e₄ : r.fourth ≡ s.fourth = cc in
-    rw (p.used, q.used, e₁, e₂, e₃, e₄)
+areas_of_once κ args r s e f p q = rw (p.used, q.used, p.four, q.four)

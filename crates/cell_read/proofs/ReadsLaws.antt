@@ -111,13 +111,11 @@ module _ (c : List ℕ) (long : length c ≡ cell_size current) where
   unfolding numbers field_of
   four b = refl
 
-  pub areas-read : (a : Areas) → a.used ≡ be (gets c 11 1)
-      → a.first ≡ be (gets c 12 3) → a.second ≡ be (gets c 15 3) → a.third ≡ be (gets c 18 3) → a.fourth ≡ be (gets c 21 3)
+  pub areas-read : (a : Areas) → a.used ≡ be (gets c 11 1) → a.all ≡ be (gets c 12 3) ∷ be (gets c 15 3) ∷ be (gets c 18 3) ∷ be (gets c 21 3) ∷ []
       → HeadAreas (take (head_size current) c) a
   unfolding head_of areas_in field_of offset
-  areas-read a u e₁ e₂ e₃ e₄ =
+  areas-read a u e =
       let b : List ℕ = take (head_size current) c in
       let used : a.used ≡ areas_used current b = u ∙ sym (head_read 2) in
-      let all : a.first ∷ a.second ∷ a.third ∷ a.fourth ∷ [] ≡ all_areas current b =
-      rw (four b, head_read 3, head_read 4, head_read 5, head_read 6, e₁, e₂, e₃, e₄) in
+      let all : a.all ≡ all_areas current b = e ∙ rw (four b, head_read 3, head_read 4, head_read 5, head_read 6) in
       record { used = used; four = all; in_use = rw (used, all) }

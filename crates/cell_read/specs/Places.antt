@@ -76,11 +76,11 @@ without k ps = take k ps ++ drop (k + 1) ps
 
 -- the used ones of the four
 unfoldable pub areas_in : Areas → List ℕ
-areas_in a = take a.used (a.first ∷ a.second ∷ a.third ∷ a.fourth ∷ [])
+areas_in a = take a.used a.all
 
 -- what the bytes of a head say of them
 pub record HeadAreas (b : List ℕ) (a : Areas) : Type 0 where
   pub used : a.used ≡ areas_used current b
-  pub four : a.first ∷ a.second ∷ a.third ∷ a.fourth ∷ [] ≡ all_areas current b
+  pub four : a.all ≡ all_areas current b
   -- which follows
   pub in_use : areas_in a ≡ (head_of current b).areas

@@ -2,7 +2,7 @@
 // is the list of its live places and a place's number, so that a layout's offsets stay in here and in `cell_change`, which changes it.
 #![tactic(auto)]
 
-ghost use Rattle.std.specs.Prelude.{◌≡◌, ◌<◌, ltb, length, take};
+ghost use Rattle.std.specs.Prelude.{◌≡◌, ◌<◌, ltb, length, take, IfOk, IfErr};
 ghost use Rattle.rules.specs.Layout.{current, head_size, places_per_cell, cell_size};
 ghost use Rattle.rules.specs.Identity.{identity_number, tracking_item};
 ghost use Rattle.rules.specs.Table.{head_of, text_of};
@@ -18,7 +18,7 @@ use rules::{Broadcasts, CellIdentity, Seconds};
 // ---- one place
 
 // How often and how many times a text is broadcast.
-#[derive(Drop)]
+#[derive(Clone, Copy)]
 pub struct Terms {
     pub period: Seconds,
     pub requested: Broadcasts,
@@ -73,46 +73,30 @@ pub fn wait(cell: &[u8], k: usize) -> Seconds
 
 // ---- the place of a text
 
-// Where a search ended: at the text, or else at the first free place, or behind the last.
-#[derive(Drop)]
-pub struct Sought {
-    pub found: bool,
-    pub at: usize,
-}
-
-pub fn seek(cell: &[u8], wanted: u32) -> Sought
+// Where the search for a text ended: at the text, or else at the first free place, or behind the last.
+pub fn seek(cell: &[u8], wanted: u32) -> Result<usize, usize>
     requires { Formed cell.now }
-    ensures { (result.at ≡ index_of wanted (live_places cell.now)) × (result.found ≡ ltb result.at (length (live_places cell.now))) }
+    ensures found { IfOk result (λ at. (at ≡ index_of wanted (live_places cell.now)) × (at < length (live_places cell.now))) }
+    ensures missing { IfErr result (λ at. (at ≡ index_of wanted (live_places cell.now)) × (at ≡ length (live_places cell.now))) }
 {
-    let mut k = 0;
-    while k < PLACES {
+    for k in 0..PLACES {
         if !is_live(cell, k) {
-            return Sought {
-                found: false,
-                at: k,
-            };
+            return Err(k);
         }
         if text(cell, k) == wanted {
-            return Sought { found: true, at: k };
+            return Ok(k);
         }
-        k += 1;
     }
-    Sought {
-        found: false,
-        at: PLACES,
-    }
+    Err(PLACES)
 }
 
 // ---- the head
 
 // The emergency areas of a head, of which the first `used` count.
-#[derive(Drop)]
+#[derive(Clone, Copy)]
 pub struct Areas {
     pub used: u8,
-    pub first: u32,
-    pub second: u32,
-    pub third: u32,
-    pub fourth: u32,
+    pub all: [u32; 4],
 }
 
 pub fn identity(cell: &[u8]) -> CellIdentity
@@ -137,9 +121,11 @@ pub fn areas_of(cell: &[u8]) -> Areas
 {
     Areas {
         used: get8(cell, AREAS_USED_AT),
-        first: get24(cell, AREAS_AT),
-        second: get24(cell, AREAS_AT + AREA),
-        third: get24(cell, AREAS_AT + 2 * AREA),
-        fourth: get24(cell, AREAS_AT + 3 * AREA),
+        all: [
+            get24(cell, AREAS_AT),
+            get24(cell, AREAS_AT + AREA),
+            get24(cell, AREAS_AT + 2 * AREA),
+            get24(cell, AREAS_AT + 3 * AREA),
+        ],
     }
 }

@@ -48,10 +48,10 @@ pub fn naming_of(cell: &[u8], area: u8) -> Naming
         let areas = areas_of(cell);
         return keyed(
             areas.used,
-            areas.first as u64,
-            areas.second as u64,
-            areas.third as u64,
-            areas.fourth as u64,
+            areas.all[0] as u64,
+            areas.all[1] as u64,
+            areas.all[2] as u64,
+            areas.all[3] as u64,
         );
     }
     keyed(0, 0, 0, 0, 0)

@@ -1,7 +1,7 @@
 -- A loop over values back to back: what is still to come decides, on top of what was kept. For every format and every way to keep.
 use mathlib.Core.Path.{◌≡◌, refl, sym, ap, ◌∙◌}
 use mathlib.Core.List.{List, ◌∷◌}
-use Prim.Native.Nat.{ℕ, suc, ◌-◌, ◌<◌, ◌≤◌}
+use Prim.Native.Nat.{ℕ, suc, ◌+◌, ◌-◌, ◌<◌, ◌≤◌}
 use native.Mathlib.Omega.{arith}
 use lib.ListN.{length, drop}
 use Rattle.formats.specs.Format.{Found, nothing, found, after, Format, several}
@@ -47,3 +47,18 @@ module _ {A S : Type 0} {f : Format A} {step : S → A → S} {goal : Found S} {
   pub walk_ends : left ≤ 0 → goal ≡ found s (drop at l)
   unfolding several gathered
   walk_ends none = let e : left ≡ 0 = omega arith in w.comes ∙ ap (λ (n : ℕ). summed (gathered step s) (several f n (drop at l))) e
+
+-- the same where the loop counts the values from 0: there are n, and k of them were read
+pub counted_starts : {A S : Type 0} {f : Format A} {step : S → A → S} {goal : Found S} {l : List ℕ} {n at : ℕ} {s : S} → Walking f step goal l n at s → Walking f step goal l (n - 0) at s
+counted_starts {n = n} w = let all : n - 0 ≡ n = omega arith in rw all w
+
+module _ {A S : Type 0} {f : Format A} {step : S → A → S} {goal : Found S} {l : List ℕ} {n k at : ℕ} {s : S} (w : Walking f step goal l (n - k) at s) where
+  pub counted_breaks : k < n → summed (step s) (f.parse (drop at l)) ≡ nothing → goal ≡ nothing
+  counted_breaks some e = walk_breaks w (omega arith) e
+
+  pub counted-goes : k < n → (t : S) (end : ℕ) → summed (step s) (f.parse (drop at l)) ≡ found t (drop end l) → end ≤ length l
+      → Walking f step goal l (n - (k + 1)) end t
+  counted-goes some t end e h = let less : n - (k + 1) ≡ n - k - 1 = omega arith in rw less (walk-goes w (omega arith) t end e h)
+
+  pub counted_ends : n ≤ k → goal ≡ found s (drop at l)
+  counted_ends none = walk_ends w (omega arith)

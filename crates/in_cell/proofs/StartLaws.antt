@@ -1,11 +1,11 @@
 -- What a Write-Replace does in a cell, said by the search for its text: found, and nothing changes; else the new place alone, or behind the others, or nowhere in a full cell.
 -- By the tests of the rule, in order; the place found tells that the text runs, and the place not found is the first free one.
-use mathlib.Core.Path.{◌≡◌, sym, ap, ◌∙◌}
-use mathlib.Core.Bool.{Bool, true, false}
+use mathlib.Core.Path.{◌≡◌, sym, ◌∙◌}
+use mathlib.Core.Bool.{true, false}
 use mathlib.Core.List.{List, [], ◌∷◌, ◌++◌}
 use Prim.Native.Nat.{ℕ, ◌<◌, ◌≤◌}
 use native.Mathlib.Omega.{arith}
-use borrow.Author.Tests.{ltb-false, lt-ltb, le-ltb}
+use borrow.Author.Tests.{lt-ltb, le-ltb}
 use lib.Dec.{ltb}
 use lib.ListN.{length}
 use lib.Seq.{sets}
@@ -21,7 +21,6 @@ use Rattle.rules.proofs.PlaceCodec.{FitPlace, length-place_bytes, place-again, p
 use Rattle.rules.proofs.PlacesCodec.{sound-place}
 use Rattle.cell_read.specs.Places.{live_places, with_places, Formed, FreeAt, OnePlace, index_of}
 use Rattle.cell_read.proofs.PlacesLaws.{with_places-live, with_places-formed, with_places-again}
-use Rattle.cell_read.proofs.SeekLaws.{index-few}
 use Rattle.in_cell.specs.Step.{rows_bytes, Ready, Stepped, StartIn}
 use Rattle.in_cell.proofs.RowsLaws.{idle, told}
 use Rattle.in_cell.proofs.TextLaws.{index-running}
@@ -62,48 +61,30 @@ module _ (q : Request) (new : List ℕ) (input : StartIn q new) where
 
 -- ---- in a cell, with what the search gave
 
--- what is known behind the search: where it ended, and whether at the text
-pub record Begun (c out new : List ℕ) (q : Request) (at : ℕ) (found : Bool) : Type 0 where
+-- what is known behind the search, which ended at the place with that number
+pub record Begun (c out new : List ℕ) (q : Request) (at : ℕ) : Type 0 where
   pub ready : Ready c out 1
   pub input : StartIn q new
   pub bytes : Bytes c
   pub small : q.serial < 65536
   pub place : at ≡ index_of (text_asked q) (live_places c)
-  pub hit : found ≡ ltb at (length (live_places c))
 
-pub begun : (c out new : List ℕ) (q : Request) → Ready c out 1 × StartIn q new → Bytes c → q.serial < 65536 → {text at : ℕ} {found : Bool}
-    → text ≡ text_asked q → (at ≡ index_of text (live_places c)) × (found ≡ ltb at (length (live_places c))) → Begun c out new q at found
-begun c out new q asked bytes small e sought =
-    record {
-      ready = asked.0;
-      input = asked.1;
-      bytes = bytes;
-      small = small;
-      place = sought.0 ∙ ap (λ (text : ℕ). index_of text (live_places c)) e;
-      hit = sought.1;
-    }
-
-module _ {c out new : List ℕ} {q : Request} {at : ℕ} {found : Bool} (b : Begun c out new q at found) where
+module _ {c out new : List ℕ} {q : Request} {at : ℕ} (b : Begun c out new q at) where
   formed : Formed c
   formed = ready_formed c out 1 b.ready b.bytes
 
-  runs : found ≡ running q.identifier q.serial (live_places c)
-  runs = b.hit ∙ rw b.place (index-running q.identifier q.serial b.small (ready_small c out 1 b.ready b.bytes))
+  runs : ltb at (length (live_places c)) ≡ running q.identifier q.serial (live_places c)
+  runs = rw b.place (index-running q.identifier q.serial b.small (ready_small c out 1 b.ready b.bytes))
 
   -- the same text is live
-  pub start_repeats : found ≡ true → {out' : List ℕ} → out' ≡ sets out 0 (rows_bytes c (reported 0)) → Stepped (start q (live_places c)) c out c out' 1 1
-  start_repeats t {out'} rows =
-      told _ c out (live_places c) 0 (start-runs q (live_places c) b.input.starts (sym runs ∙ t)) c out' formed.whole rows
+  pub start_repeats : at < length (live_places c) → {out' : List ℕ} → out' ≡ sets out 0 (rows_bytes c (reported 0)) → Stepped (start q (live_places c)) c out c out' 1 1
+  start_repeats live {out'} rows =
+      told _ c out (live_places c) 0 (start-runs q (live_places c) b.input.starts (sym runs ∙ lt-ltb at (length (live_places c)) live)) c out' formed.whole rows
 
   -- it is not
-  module _ (n : found ≡ false) where
+  module _ (first : at ≡ length (live_places c)) where
     absent : running q.identifier q.serial (live_places c) ≡ false
-    absent = sym runs ∙ n
-
-    first : at ≡ length (live_places c)
-    first =
-        let most : at ≤ length (live_places c) = rw b.place (index-few (text_asked q) (live_places c)) in
-        omega (arith, ltb-false at (length (live_places c)) (sym b.hit ∙ n))
+    absent = sym runs ∙ le-ltb at (length (live_places c)) (omega arith)
 
     pub free_here : at < places_per_cell → FreeAt c at
     free_here room = record { formed = formed; first = first; room = room }

@@ -1,11 +1,11 @@
 -- What Cancel and Failure do in a cell, said by the search for a text: the place found goes and is reported with its sent count, and without one nothing happens.
 -- By the laws of the search; flag 2 is a failure.
-use mathlib.Core.Path.{◌≡◌, refl, sym, ◌∙◌}
-use mathlib.Core.Bool.{Bool, true, false, false≢true}
+use mathlib.Core.Path.{◌≡◌, refl, ◌∙◌}
+use mathlib.Core.Bool.{true, false, false≢true}
 use mathlib.Core.List.{List, [], ◌∷◌}
 use Prim.Native.Nat.{ℕ, suc, ◌<◌}
 use native.Mathlib.Omega.{arith}
-use borrow.Author.Tests.{ltb-true, ltb-false}
+use borrow.Author.Tests.{ltb-false, lt-ltb, le-ltb}
 use lib.Dec.{ltb}
 use lib.ListN.{length, get_or}
 use lib.Seq.{sets}
@@ -18,8 +18,7 @@ use Rattle.rules.proofs.ListsLaws.{all_those, none_made}
 use Rattle.rules.proofs.TestLaws.{by_test}
 use Rattle.rules.proofs.AllLaws.{All}
 use Rattle.rules.proofs.PlaceLaws.{Small}
-use Rattle.cell_read.specs.Places.{live_places, with_places, Formed, no_place, place_at, LiveAt, index_of, without}
-use Rattle.cell_read.proofs.PlacesLaws.{live_at}
+use Rattle.cell_read.specs.Places.{live_places, with_places, Formed, no_place, place_at, index_of, without}
 use Rattle.in_cell.specs.Step.{rows_bytes, Stepped}
 use Rattle.in_cell.specs.Stop.{stop_text}
 use Rattle.in_cell.proofs.RowsLaws.{idle, told}
@@ -68,21 +67,18 @@ failure-free (p ∷ ps) e = absurd (omega (arith, ltb-false 0 (suc (length ps)) 
 
 -- ---- in a cell, with what a search gave
 
-module _ (c out : List ℕ) (text at : ℕ) (found : Bool) (e : at ≡ index_of text (live_places c)) (f : found ≡ ltb at (length (live_places c))) where
-  pub sought_live : Formed c → found ≡ true → LiveAt c at
-  sought_live formed t = live_at c formed at (ltb-true at (length (live_places c)) (sym f ∙ t))
-
-  pub sought_stops : found ≡ true → (n : ℕ) → n ≡ (place_at c at).sent.0
+module _ (c out : List ℕ) (text at : ℕ) (e : at ≡ index_of text (live_places c)) where
+  pub found_stops : at < length (live_places c) → (n : ℕ) → n ≡ (place_at c at).sent.0
       → (c' out' : List ℕ) → c' ≡ with_places c (without at (live_places c)) → out' ≡ sets out 0 (rows_bytes c (reported n))
       → Stepped (stop_text text (live_places c)) c out c' out' 1 1
   unfolding place_at
-  sought_stops t n en c' out' ec eo =
+  found_stops live n en c' out' ec eo =
       let ps : List Place = live_places c in
-      let h : ltb (index_of text ps) (length ps) ≡ true = rw (← e) (sym f ∙ t) in
+      let h : ltb (index_of text ps) (length ps) ≡ true = rw (← e) (lt-ltb at (length ps) live) in
       told (stop_text text ps) c out (without at ps) n (stop-found text ps h ∙ rw (← e, ← en)) c' out' ec eo
 
-  pub sought_idle : Formed c → found ≡ false → Stepped (stop_text text (live_places c)) c out c out 1 0
-  sought_idle formed t =
+  pub absent_idle : Formed c → at ≡ length (live_places c) → Stepped (stop_text text (live_places c)) c out c out 1 0
+  absent_idle formed last =
       let ps : List Place = live_places c in
-      let h : ltb (index_of text ps) (length ps) ≡ false = rw (← e) (sym f ∙ t) in
+      let h : ltb (index_of text ps) (length ps) ≡ false = rw (← e) (le-ltb at (length ps) (omega arith)) in
       idle (stop_text text ps) c out formed (stop_absent text ps h)

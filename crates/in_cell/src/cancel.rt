@@ -36,15 +36,15 @@ fn cancel_text(cell: &mut [u8], text: u32, out: &mut [u8]) -> usize
     requires { Ready cell.old out.old 1 }
     ensures { Stepped (stop_text text (live_places cell.old)) cell.old out.old cell.new out.new 1 result }
 {
-    let sought = seek(cell, text);
-    if !sought.found {
-        return 0;
+    match seek(cell, text) {
+        Ok(at) => {
+            let count = sent(cell, at);
+            report(cell, count, out);
+            drop_place(cell, at);
+            1
+        }
+        Err(_) => 0,
     }
-    let at = sought.at;
-    let count = sent(cell, at);
-    report(cell, count, out);
-    drop_place(cell, at);
-    1
 }
 
 // Flag 2 stops all places, as a failure does; otherwise the one text stops.

@@ -15,22 +15,22 @@ pub fn start_in_cell(cell: &mut [u8], request: Request, new: &[u8], out: &mut [u
     requires start_in { StartIn request new.now }
     ensures { Stepped (start request (live_places cell.old)) cell.old out.old cell.new out.new 1 result }
 {
-    let sought = seek(cell, request.text());
-    let at = sought.at;
-    if sought.found {
-        report(cell, Broadcasts(0), out);
-        return 1;
+    match seek(cell, request.text()) {
+        Ok(_) => {
+            report(cell, Broadcasts(0), out);
+            1
+        }
+        Err(_) if !request.concurrent() => {
+            report(cell, Broadcasts(0), out);
+            free_all(cell);
+            add_place(cell, 0, new);
+            1
+        }
+        Err(free) if free < PLACES => {
+            report(cell, Broadcasts(0), out);
+            add_place(cell, free, new);
+            1
+        }
+        Err(_) => 0,
     }
-    if !request.concurrent() {
-        report(cell, Broadcasts(0), out);
-        free_all(cell);
-        add_place(cell, 0, new);
-        return 1;
-    }
-    if at < PLACES {
-        report(cell, Broadcasts(0), out);
-        add_place(cell, at, new);
-        return 1;
-    }
-    0
 }

@@ -17,14 +17,10 @@ pub fn step_cell(cell: &mut [u8], request: Request, new: &[u8], out: &mut [u8]) 
     requires to_step { (ToStep request new.now) × (request.kind ≡ one_second → ⊥) }
     ensures { Stepped (in_cell request (live_places cell.old)) cell.old out.old cell.new out.new (rows_per_cell request.kind) result }
 {
-    if request.kind == WRITE_REPLACE {
-        return start_in_cell(cell, request, new, out);
+    match request.kind {
+        WRITE_REPLACE => start_in_cell(cell, request, new, out),
+        CANCEL_OR_KILL => cancel_in_cell(cell, request, out),
+        RESTART => restart_in_cell(cell, out),
+        _ => failure_in_cell(cell, out),
     }
-    if request.kind == CANCEL_OR_KILL {
-        return cancel_in_cell(cell, request, out);
-    }
-    if request.kind == RESTART {
-        return restart_in_cell(cell, out);
-    }
-    failure_in_cell(cell, out)
 }

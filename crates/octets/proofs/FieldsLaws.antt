@@ -7,6 +7,7 @@ use native.Mathlib.Nat.{sub-zero, zero-sub, suc-sub-suc}
 use native.Mathlib.Omega.{arith}
 use lib.ListN.{length, get_or, take, drop, replicate, length-append, length-drop}
 use lib.Seq.{take-take, take-nil, take-add, take_at, drop_at, take-append-le, drop-append-le, length-take-le}
+use Rattle.std.proofs.lemmas.List.{drop-replicate}
 use Rattle.octets.specs.Runs.{gets, Bytes}
 use Rattle.octets.specs.Numbers.{be, to_be}
 use Rattle.octets.specs.Fields.{size, offset, numbers, field_of, bytes_of, Fit, none, field, padded}
@@ -109,15 +110,10 @@ be-take-zeros zero n = refl
 be-take-zeros (suc w) zero = refl
 be-take-zeros (suc w) (suc n) = rw (be-take-zeros w n) (omega arith)
 
-drop-zeros : (w n : ℕ) → drop {A = ℕ} w (replicate n 0) ≡ replicate (n - w) 0
-drop-zeros zero n = rw sub-zero
-drop-zeros (suc w) zero = rw zero-sub
-drop-zeros (suc w) (suc n) = rw suc-sub-suc (drop-zeros w n)
-
 pub numbers-zeros : (ws : List ℕ) (n : ℕ) → numbers ws (replicate n 0) ≡ replicate (length ws) 0
 unfolding numbers
 numbers-zeros [] n = refl
-numbers-zeros (w ∷ ws) n = rw (be-take-zeros w n, drop-zeros w n, numbers-zeros ws (n - w))
+numbers-zeros (w ∷ ws) n = rw (be-take-zeros w n, drop-replicate {X = ℕ} w n 0, numbers-zeros ws (n - w))
 
 -- ---- filled up
 

@@ -5,16 +5,15 @@ use mathlib.Core.List.{List, map}
 use Prim.Native.Nat.{ℕ, zero, suc, ◌+◌, ◌*◌, ◌-◌, ◌/◌, ◌%◌, ◌^◌, ◌<◌, ◌≤◌}
 use native.Mathlib.Nat.{pow-succ', mod-lt, div-lt_iff_lt-mul, zero-div, zero-mod}
 use native.Mathlib.Omega.{arith}
-use lib.Bits.{bit_or, or_zero_l, or_shr, or_mod, or_block, or_lt, or_add_and, and_le_l, and_le_r}
+use lib.Bits.{bit_or, or_zero_l, or_shr, or_mod, or_block, or_add_and, and_le_l, and_le_r}
 use lib.ListN.{length, drop}
 use lib.Pow.{pow-add}
 use Rattle.octets.specs.Runs.{gets, pieces, Bytes}
 use Rattle.octets.specs.Numbers.{be, to_be}
 use Rattle.octets.specs.Turned.{le, turned}
 use Rattle.octets.specs.Joined.{joined}
-use Rattle.octets.proofs.RunsLaws.{length-gets, bytes-gets}
-use Rattle.octets.proofs.NumbersLaws.{pow_pos256}
-use Rattle.octets.proofs.TurnedLaws.{le_lt, turned-gets}
+use Rattle.octets.proofs.NumbersLaws.{pow_pos256, be-gets_lt}
+use Rattle.octets.proofs.TurnedLaws.{turned_lt, turned-twice}
 use Rattle.octets.proofs.PiecesLaws.{pieces-next, pieces_none}
 
 -- ---- below a power of 2
@@ -65,20 +64,15 @@ turned-nothing (suc w) =
 
 -- ---- met one by one
 
--- a turn of the loop that joins the big-endian numbers of l as they are loaded
-module _ (w : ℕ) (l : List ℕ) (bytes : Bytes l) (any at left : ℕ) (fits : any < 256 ^ w) where
-  loaded_fits : {x : ℕ} → x ≡ le (gets l at w) → x < 256 ^ w
-  loaded_fits {x} e = rw e (rw length-gets at (le_lt (gets l at w) (bytes-gets w l at bytes)))
-
-  pub joined-fits : {x : ℕ} → x ≡ le (gets l at w) → bit_or any x < 256 ^ w
-  joined-fits {x} e = rw (pow_bits w) (or_lt (8 * w) any x (rw (pow_bits w) at fits) (rw (pow_bits w) at (loaded_fits e)))
-
-  pub joined-next : 0 < left → at + w ≤ length l → {x : ℕ} → x ≡ le (gets l at w)
-      → joined (turned w any) (map be (pieces w left (drop at l))) ≡ joined (turned w (bit_or any x)) (map be (pieces w (left - 1) (drop (at + w) l)))
-  unfolding joined
-  joined-next h within {x} e =
-      let one : turned w (bit_or any x) ≡ bit_or (turned w any) (be (gets l at w)) = turned_or w any x fits (loaded_fits e) ∙ ap (bit_or (turned w any)) (ap (turned w) e ∙ turned-gets w l at bytes) in
-      rw (pieces-next w left l at h within, one)
+-- a turn of the loop that joins the big-endian numbers of l, each turned
+pub joined-next : (w : ℕ) (l : List ℕ) → Bytes l → (any at left : ℕ) → any < 256 ^ w → 0 < left → at + w ≤ length l
+    → joined (turned w any) (map be (pieces w left (drop at l)))
+    ≡ joined (turned w (bit_or any (turned w (be (gets l at w))))) (map be (pieces w (left - 1) (drop (at + w) l)))
+unfolding joined
+joined-next w l bytes any at left fits more within =
+    let x = be (gets l at w) in
+    let lt : x < 256 ^ w = be-gets_lt w at l bytes in
+    rw (pieces-next w left l at more within, turned_or w any (turned w x) fits (turned_lt w x lt), turned-twice w x lt)
 
 pub joined-none : (w any left : ℕ) (l : List ℕ) → left ≤ 0 → joined any (map be (pieces w left l)) ≡ any
 unfolding joined

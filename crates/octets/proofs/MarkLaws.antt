@@ -1,12 +1,13 @@
 -- A mark of three bytes and a version of two, tested by one wider read and a byte: what the four bytes and the fifth say decides both.
 -- The fourth byte is the version's upper one; it is zero on either side.
 use mathlib.Core.Path.{◌≡◌, refl, sym}
-use mathlib.Core.Bool.{Bool, true, false, ◌&&◌, false≢true}
+use mathlib.Core.Bool.{Bool, true, false, ◌&&◌}
 use mathlib.Core.List.{List}
 use Prim.Native.Nat.{ℕ, ◌+◌, ◌*◌, ◌<◌}
 use native.Mathlib.Omega.{arith}
 use lib.Dec.{eqb}
 use borrow.Author.Tests.{eqb-true, eq-eqb}
+use Rattle.std.proofs.lemmas.Bool.{and_parts}
 use Rattle.octets.specs.Runs.{gets, Bytes}
 use Rattle.octets.specs.Numbers.{be}
 use Rattle.octets.proofs.NumbersLaws.{be-gets_lt, be-run}
@@ -16,10 +17,6 @@ same_test : (a b : Bool) → (a ≡ true → b ≡ true) → (b ≡ true → a �
 same_test true b f g = sym (f refl)
 same_test false true f g = g refl
 same_test false false f g = refl
-
-two_tests : (a b : Bool) → a && b ≡ true → (a ≡ true) × (b ≡ true)
-two_tests true b e = (refl, e)
-two_tests false b e = absurd (false≢true e)
 
 module _ (l : List ℕ) (b : Bytes l) (mark version : ℕ) (small : version < 256) where
   abbrev wide : Bool
@@ -37,7 +34,7 @@ module _ (l : List ℕ) (b : Bytes l) (mark version : ℕ) (small : version < 25
 
   by_wide : wide ≡ true → fields ≡ true
   by_wide e =
-      let t = two_tests (eqb (be (gets l 0 4)) (mark * 256)) (eqb (be (gets l 4 1)) version) e in
+      let t = and_parts (eqb (be (gets l 0 4)) (mark * 256)) (eqb (be (gets l 4 1)) version) e in
       let x = eqb-true (be (gets l 0 4)) (mark * 256) t.0 in
       let y = eqb-true (be (gets l 4 1)) version t.1 in
       let h = be-gets_lt 1 3 l b in
@@ -48,7 +45,7 @@ module _ (l : List ℕ) (b : Bytes l) (mark version : ℕ) (small : version < 25
 
   by_fields : fields ≡ true → wide ≡ true
   by_fields e =
-      let t = two_tests (eqb (be (gets l 0 3)) mark) (eqb (be (gets l 3 2)) version) e in
+      let t = and_parts (eqb (be (gets l 0 3)) mark) (eqb (be (gets l 3 2)) version) e in
       let x = eqb-true (be (gets l 0 3)) mark t.0 in
       let y = eqb-true (be (gets l 3 2)) version t.1 in
       rw (

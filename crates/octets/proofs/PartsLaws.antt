@@ -1,12 +1,13 @@
 -- Laws of a list in two parts: what is read or stored in one part, said of the whole; and of one field of a layout's bytes.
 -- By induction over what is read or stored; a field's law by the layout, one field at a time.
-use mathlib.Core.Path.{◌≡◌, refl, ap, ◌∙◌}
+use mathlib.Core.Path.{◌≡◌, refl, ◌∙◌}
 use mathlib.Core.List.{List, [], ◌∷◌, ◌++◌, append-nil}
-use Prim.Native.Nat.{ℕ, zero, suc, ◌+◌, ◌^◌, ◌<◌, ◌≤◌}
-use native.Mathlib.Nat.{zero-add, suc-add, add-suc}
+use Prim.Native.Nat.{ℕ, zero, suc, ◌+◌, ◌-◌, ◌^◌, ◌<◌, ◌≤◌}
+use native.Mathlib.Nat.{add-suc}
 use native.Mathlib.Omega.{arith}
 use lib.ListN.{length, get_or, set, length-set, get_or-append}
 use lib.Seq.{sets, get_or-append-add, set-append_left, drop-length}
+use Rattle.std.proofs.lemmas.List.{set-append_right}
 use Rattle.octets.specs.Runs.{gets}
 use Rattle.octets.specs.Numbers.{to_be}
 use Rattle.octets.specs.Fields.{offset, bytes_of, Fit, none, field}
@@ -24,14 +25,10 @@ module _ (a x : List ℕ) (at : ℕ) (e : length a ≡ at) where
   gets-behind zero j = refl
   gets-behind (suc m) j = rw (get_or-behind j, ← add-suc, gets-behind m (suc j))
 
-set-behind : (a x : List ℕ) (j v : ℕ) → set (a ++ x) (length a + j) v ≡ a ++ set x j v
-set-behind [] x j v = rw zero-add
-set-behind (y ∷ a) x j v = rw suc-add (ap (λ (r : List ℕ). y ∷ r) (set-behind a x j v))
-
 pub sets_behind : (vs a x : List ℕ) (at j : ℕ) → length a ≡ at → sets (a ++ x) (at + j) vs ≡ a ++ sets x j vs
 sets_behind [] a x at j e = refl
 sets_behind (v ∷ vs) a x at j e =
-    let s : set (a ++ x) (at + j) v ≡ a ++ set x j v = rw (← e) (set-behind a x j v) in
+    let s : set (a ++ x) (at + j) v ≡ a ++ set x j v = let back : at + j - at ≡ j = omega arith in rw back at (set-append_right a x at (at + j) v e (omega arith)) in
     rw (s, ← add-suc) (sets_behind vs a (set x j v) at (suc j) e)
 
 -- ---- in the first part

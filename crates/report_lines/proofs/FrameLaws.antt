@@ -1,28 +1,36 @@
 -- Laws of framing: each case of a record's own size and of the next frame; and bytes moved to the front one by one.
-use mathlib.Core.Path.{◌≡◌, refl}
-use mathlib.Core.Bool.{Bool, true, false}
-use mathlib.Core.List.{List, [], ◌∷◌}
-use Prim.Native.Nat.{ℕ, ◌+◌, ◌*◌, ◌≤◌, ◌<◌}
+use Rattle.std.specs.Prelude.{Some, None, ◌⊎◌}
+use Rattle.std.specs.Bool.{then_some}
+use Rattle.std.specs.List.{copy_within}
+use mathlib.Core.Path.{◌≡◌, sym, ap}
+use mathlib.Core.Bool.{Bool, true, false, not, ◌&&◌}
+use mathlib.Core.List.{List, ◌++◌}
+use Prim.Native.Nat.{ℕ, ◌+◌, ◌-◌, ◌*◌, ◌≤◌, ◌<◌}
 use native.Mathlib.Omega.{arith}
-use lib.ListN.{length, get_or, set}
-use lib.Seq.{sets}
-use borrow.Author.Tests.{le-leb, lt-leb}
+use lib.Dec.{eqb, leb}
+use lib.ListN.{length, take, drop, length-drop}
+use lib.Seq.{sets, length-take-le}
+use borrow.Author.Tests.{le-leb, lt-leb, leb-true, ne_eqb}
 use Rattle.octets.specs.Runs.{gets}
 use Rattle.octets.specs.Numbers.{be}
-use Rattle.octets.proofs.RunsLaws.{gets_eq, gets_run, get_or-sets-after, length-gets, sets-run}
+use Rattle.octets.proofs.RunsLaws.{gets_eq, sets_front}
+use Rattle.rules.proofs.TestLaws.{by_test}
 use Rattle.rules.specs.Layout.{current, most_cells, record_size, item_size, most_items}
 use Rattle.rules.specs.Record.{item_count}
 use Rattle.report_lines.specs.Framing.{count_size, cells_named, own_size, frame_of}
 
 -- ---- N
 
-pub cells-many : (l : List ℕ) (n : ℕ) → n ≡ be (gets l 0 count_size) → count_size ≤ length l → most_cells < n → 0 ≡ cells_named l
-unfolding cells_named
-cells-many l n e h k = rw (← gets_eq count_size l 0 h, ← e, lt-leb n most_cells k)
+module _ (l : List ℕ) (n : ℕ) (e : n ≡ be (gets l 0 count_size)) (long : count_size ≤ length l) where
+  pub cells_some : 1 ≤ n → n ≤ most_cells → Some n ≡ cells_named l
+  unfolding cells_named
+  cells_some some few = rw (← gets_eq count_size l 0 long, ← e, le-leb 1 n some, le-leb n most_cells few)
 
-pub cells-few : (l : List ℕ) (n : ℕ) → n ≡ be (gets l 0 count_size) → count_size ≤ length l → n ≤ most_cells → n ≡ cells_named l
-unfolding cells_named
-cells-few l n e h k = rw (← gets_eq count_size l 0 h, ← e, le-leb n most_cells k)
+  pub cells_none : (n ≡ 0) ⊎ (most_cells < n) → None ≡ cells_named l
+  unfolding cells_named
+  cells_none out =
+      rw (← gets_eq count_size l 0 long, ← e)
+      (by_test (leb 1 n) (λ (t : leb 1 n ≡ true). rw (t, lt-leb n most_cells (omega (arith, out, leb-true 1 n t)))) (λ (t : leb 1 n ≡ false). rw t))
 
 -- ---- a record's own size
 
@@ -41,28 +49,23 @@ own-whole l n h e k = rw (le-leb record_size (length l) h, ← e, le-leb n most_
 -- ---- the next frame
 
 module _ (l : List ℕ) (size : ℕ) (e : size ≡ own_size l) where
-  pub frame-whole : (ended : Bool) → size ≤ length l → size ≡ frame_of l ended
+  pub frame-whole : (ended : Bool) → size ≤ length l → Some size ≡ frame_of l ended
   unfolding frame_of
   frame-whole ended h = rw (← e, le-leb size (length l) h)
 
-  pub frame-cut : (ended : Bool) → ended ≡ true → length l < size → length l ≡ frame_of l ended
+  pub frame-left : (ended : Bool) → length l < size → then_some (ended && not (eqb (length l) 0)) (length l) ≡ frame_of l ended
   unfolding frame_of
-  frame-cut ended t h = rw (← e, lt-leb size (length l) h, t)
+  frame-left ended h = rw (← e, lt-leb size (length l) h)
 
-  pub frame-none : (ended : Bool) → ended ≡ false → length l < size → 0 ≡ frame_of l ended
-  unfolding frame_of
-  frame-none ended t h = rw (← e, lt-leb size (length l) h, t)
+  pub frame-cut : 0 < length l → length l < size → Some (length l) ≡ frame_of l true
+  frame-cut some h = rw (ne_eqb (length l) 0 (omega arith)) at (frame-left true h)
 
 -- ---- bytes moved to the front
 
-pub moved_none : (b : List ℕ) (from : ℕ) → b ≡ sets b 0 (gets b from 0)
-unfolding gets
-moved_none b from = refl
-
--- one more: what is read behind those that were moved is as it was
-pub moved_more : (b c : List ℕ) (from i : ℕ) → c ≡ sets b 0 (gets b from i) → set c i (get_or c (from + i) 0) ≡ sets b 0 (gets b from (i + 1))
-unfolding gets
-moved_more b c from i e =
-    let n : length (gets b from i) ≡ i = length-gets i b from in
-    let g : get_or c (from + i) 0 ≡ get_or b (from + i) 0 = rw e (get_or-sets-after (gets b from i) b 0 (from + i) (omega arith)) in
-    rw (g, e, ← gets_run i b from (from + i) 1 refl) (sets-run (gets b from i) (get_or b (from + i) 0 ∷ []) b 0 i (omega arith))
+-- what `copy_within` leaves
+pub moved : (b : List ℕ) (from to : ℕ) → from ≤ to → to ≤ length b → copy_within b from to 0 ≡ sets b 0 (gets b from (to - from))
+moved b from to h k =
+    let part : List ℕ = take (to - from) (drop from b) in
+    let run : gets b from (to - from) ≡ part = gets_eq (to - from) b from (omega arith) in
+    let long : length part ≡ to - from = length-take-le (to - from) (drop from b) (omega (arith, length-drop from b)) in
+    sym (rw (run, sets_front b part (omega arith), long) (ap (λ (k : ℕ). part ++ drop k b) (omega arith)))

@@ -1,7 +1,7 @@
 -- Framing does not depend on how the input comes: a record that is taken is the one that the whole input has there.
 -- And a record that the end of the input cuts off is the last: the reader gives 3 or 4 for what is there, and both stop the program.
 -- The first 26 bytes settle a record's size; what is shorter than its own size is refused by its mark or its length.
-use Rattle.std.specs.Prelude.{Ok, Err}
+use Rattle.std.specs.Prelude.{Some, None, Ok, Err}
 use mathlib.Core.Path.{◌≡◌, refl, sym, ◌∙◌}
 use mathlib.Core.Bool.{Bool, true, false, ◌&&◌, false≢true}
 use mathlib.Core.List.{List, ◌++◌}
@@ -9,7 +9,7 @@ use Prim.Native.Nat.{ℕ, ◌+◌, ◌*◌, ◌≤◌, ◌<◌}
 use native.Mathlib.Omega.{arith}
 use lib.Dec.{eqb, leb}
 use lib.ListN.{length, take, length-append}
-use lib.Seq.{take_all, take-append-le}
+use lib.Seq.{take-append-le}
 use borrow.Author.Tests.{leb-true, le-leb, eqb-true}
 use Rattle.octets.specs.Fields.{field_of}
 use Rattle.octets.proofs.FieldsLaws.{numbers_append}
@@ -43,24 +43,26 @@ own_stays held more h =
     let n : length (held ++ more) ≡ length held + length more = length-append held more in
     rw (count_stays held more h, le-leb record_size (length held) h, le-leb record_size (length (held ++ more)) (omega arith))
 
-taken-whole : (held : List ℕ) → 0 < frame_of held false → own_size held ≤ length held
+taken-whole : (held : List ℕ) (size : ℕ) → frame_of held false ≡ Some size → (own_size held ≡ size) × (size ≤ length held)
 unfolding frame_of
-taken-whole held h =
-    by_test (leb (own_size held) (length held)) (λ (e : leb (own_size held) (length held) ≡ true). leb-true (own_size held) (length held) e)
-    (λ (e : leb (own_size held) (length held) ≡ false). absurd (omega (arith, rw e at h)))
+taken-whole held size h =
+    by_test (leb (own_size held) (length held))
+    (λ (e : leb (own_size held) (length held) ≡ true).
+    let some : Some (own_size held) ≡ Some size = rw e at h in
+    let same : own_size held ≡ size = cc in
+    (same, omega (arith, leb-true (own_size held) (length held) e)))
+    (λ (e : leb (own_size held) (length held) ≡ false). let none : None ≡ Some size = rw e at h in cc)
 
-pub frame_stays : (held more : List ℕ) (ended : Bool) → 0 < frame_of held false → frame_of (held ++ more) ended ≡ frame_of held false
-frame_stays held more ended h =
-    let w : own_size held ≤ length held = taken-whole held h in
-    let n : length (held ++ more) ≡ length held + length more = length-append held more in
-    let s : own_size (held ++ more) ≡ own_size held = own_stays held more (omega (arith, own-least held)) in
-    sym (frame-whole (held ++ more) (own_size held) (sym s) ended (omega arith)) ∙ frame-whole held (own_size held) refl false w
+module _ (held more : List ℕ) (size : ℕ) (h : frame_of held false ≡ Some size) where
+  pub frame_stays : (ended : Bool) → frame_of (held ++ more) ended ≡ Some size
+  frame_stays ended =
+      let w = taken-whole held size h in
+      let n : length (held ++ more) ≡ length held + length more = length-append held more in
+      let s : own_size (held ++ more) ≡ own_size held = own_stays held more (omega (arith, own-least held, w.0, w.1)) in
+      sym (frame-whole (held ++ more) size (sym (s ∙ w.0)) ended (omega (arith, w.1)))
 
-pub record_stays : (held more : List ℕ) → 0 < frame_of held false → take (frame_of held false) (held ++ more) ≡ take (frame_of held false) held
-record_stays held more h =
-    let w : own_size held ≤ length held = taken-whole held h in
-    let e : own_size held ≡ frame_of held false = frame-whole held (own_size held) refl false w in
-    take-append-le (frame_of held false) held more (omega arith)
+  pub record_stays : take size (held ++ more) ≡ take size held
+  record_stays = take-append-le size held more (taken-whole held size h).1
 
 -- ---- a record that is cut off
 
@@ -114,14 +116,17 @@ cut-refused l h = by_test (record_marked current l) marked (λ (e : record_marke
     marked : record_marked current l ≡ true → stops_at (verdict_number (record_verdict current l)) ≡ true
     marked e = by_test sized (λ (s : sized ≡ true). absurd (whole (long-marked l e) s)) (λ (s : sized ≡ false). rw (e, s) stops_4)
 
--- so the program stops there, whatever its table
-pub cut-stops : (t a l : List ℕ) → length l < own_size l → stops_at (applied current t (take (frame_of l true) l) a).number ≡ true
+-- so the program stops there, whatever its table: all that is left is the record
+pub record CutStops (t a l : List ℕ) : Type 0 where
+  pub taken : 0 < length l → frame_of l true ≡ Some (length l)
+  pub stops : stops_at (applied current t l a).number ≡ true
+
+pub cut-stops : (t a l : List ℕ) → length l < own_size l → CutStops t a l
 unfolding applied
 cut-stops t a l h =
-    rw (
-      ← frame-cut l (own_size l) refl true refl h,
-      take_all (length l) l (omega arith),
-      number_of (apply_verdict current t l (length a)) (request_of l) (items_of l) t a,
-      apply_chain current t l (length a),
-    )
-    (table-stops t _ (stays_stopped (record_verdict current l) _ (cut-refused l h)))
+    record {
+      taken = λ (some : 0 < length l). sym (frame-cut l (own_size l) refl some h);
+      stops =
+          rw (number_of (apply_verdict current t l (length a)) (request_of l) (items_of l) t a, apply_chain current t l (length a))
+          (table-stops t _ (stays_stopped (record_verdict current l) _ (cut-refused l h)));
+    }

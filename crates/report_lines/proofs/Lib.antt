@@ -1,5 +1,5 @@
 pub mod TextLaws
-pub mod LineLaws
+pub mod RowLaws
 pub mod FrameLaws
 pub mod Framed
 pub mod Spelt

@@ -1,5 +1,5 @@
 // Framing: N, and the bytes that the next record takes.
-ghost use Rattle.std.specs.Prelude.{◌≡◌, ◌+◌, ◌-◌, ◌≤◌, length};
+ghost use Rattle.std.specs.Prelude.{◌≡◌, ◌+◌, ◌-◌, ◌≤◌, length, IfSome};
 ghost use Rattle.std.proofs.lemmas.List.Edits.{sets};
 ghost use Rattle.octets.specs.Runs.{gets};
 ghost use Rattle.rules.specs.Layout.{most_cells};
@@ -9,17 +9,16 @@ use octets::get16;
 use record_read::count;
 use rules::layout::{ITEM, MOST_CELLS, MOST_ITEMS, RECORD};
 
-// N where it is 1 to 512, else 0.
-pub fn cells(held: &[u8]) -> usize
+// N where it is 1 to 512.
+pub fn cells(held: &[u8]) -> Option<usize>
     requires { count_size ≤ length held.now }
     ensures value { result ≡ cells_named held.now }
-    ensures upper_bound { result ≤ most_cells }
+    ensures fit_a_table { IfSome result (λ n. n ≤ most_cells) }
 {
-    let n = get16(held, 0) as usize;
-    if MOST_CELLS < n {
-        return 0;
+    match get16(held, 0) as usize {
+        n @ 1..=MOST_CELLS => Some(n),
+        _ => None,
     }
-    n
 }
 
 fn own_size(held: &[u8]) -> usize
@@ -35,19 +34,16 @@ fn own_size(held: &[u8]) -> usize
     RECORD + ITEM * n
 }
 
-// The record at the start of the bytes at hand; 0 where there is none to take yet.
-pub fn frame(held: &[u8], ended: bool) -> usize
+// The record at the start of the bytes at hand, where there is one to take: whole, or what the end of the input left of it.
+pub fn frame(held: &[u8], ended: bool) -> Option<usize>
     ensures value { result ≡ frame_of held.now ended }
-    ensures upper_bound { result ≤ length held.now }
+    ensures at_hand { IfSome result (λ size. size ≤ length held.now) }
 {
     let size = own_size(held);
     if size <= held.len() {
-        return size;
+        return Some(size);
     }
-    if ended {
-        return held.len();
-    }
-    0
+    (ended & !held.is_empty()).then_some(held.len())
 }
 
 // Moves the bytes from one index up to another to the front of the buffer; those behind them stay.
@@ -56,9 +52,5 @@ pub fn settle(buffer: &mut [u8], from: usize, to: usize)
     requires to_in_bounds { to ≤ length buffer.old }
     ensures { buffer.new ≡ sets buffer.old 0 (gets buffer.old from (to - from)) }
 {
-    let mut i = 0;
-    while i < to - from {
-        buffer[i] = buffer[from + i];
-        i += 1;
-    }
+    buffer.copy_within(from..to, 0);
 }

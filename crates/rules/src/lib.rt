@@ -14,11 +14,11 @@ use kind::{CANCEL_ALL, NOTIFIED};
 
 // "A count of seconds never stands where a count of broadcasts is meant": each has a type of its own.
 #[repr(C)]
-#[derive(Clone, Copy)]
+#[derive(Clone, Copy, Default)]
 pub struct Seconds(pub u32);
 
 #[repr(C)]
-#[derive(Clone, Copy)]
+#[derive(Clone, Copy, Default)]
 pub struct Broadcasts(pub u16);
 
 // A live place of a cell.
@@ -36,7 +36,7 @@ pub struct Place {
 
 // A request without its items: what the reader returns of a record, and what the writer takes.
 #[repr(C)]
-#[derive(Clone, Copy)]
+#[derive(Clone, Copy, Default)]
 pub struct Request {
     pub kind: u8,
     pub flags: u8,
@@ -82,52 +82,35 @@ impl Request {
 // The numbered refusals, in the order of their numbers: document 01's nine, then document 02's: those of a list of segments, and those of a message and of an answer on the wire.
 #[derive(Clone, Copy)]
 pub enum Refusal {
-    TableMark,
-    TableWrong,
-    RecordMark,
-    RecordLength,
-    RecordFields,
-    RecordLimits,
-    CancelsNothing,
-    ShortBuffer,
-    BadHeads,
-    ListDamaged,
-    TooManySegments,
-    NoSuchSegment,
-    BadEncoding,
-    OtherMessage,
-    UnknownElement,
-    ElementsWrong,
-    AnswerWrong,
+    TableMark = 1,
+    TableWrong = 2,
+    RecordMark = 3,
+    RecordLength = 4,
+    RecordFields = 5,
+    RecordLimits = 6,
+    CancelsNothing = 7,
+    ShortBuffer = 8,
+    BadHeads = 9,
+    ListDamaged = 10,
+    TooManySegments = 11,
+    NoSuchSegment = 12,
+    BadEncoding = 13,
+    OtherMessage = 14,
+    UnknownElement = 15,
+    ElementsWrong = 16,
+    AnswerWrong = 17,
 }
 
 impl Refusal {
+    // Each stands for its number.
     pub fn number(self) -> u32
         ensures { result ≡ number_of self }
     {
-        match self {
-            Refusal::TableMark => 1,
-            Refusal::TableWrong => 2,
-            Refusal::RecordMark => 3,
-            Refusal::RecordLength => 4,
-            Refusal::RecordFields => 5,
-            Refusal::RecordLimits => 6,
-            Refusal::CancelsNothing => 7,
-            Refusal::ShortBuffer => 8,
-            Refusal::BadHeads => 9,
-            Refusal::ListDamaged => 10,
-            Refusal::TooManySegments => 11,
-            Refusal::NoSuchSegment => 12,
-            Refusal::BadEncoding => 13,
-            Refusal::OtherMessage => 14,
-            Refusal::UnknownElement => 15,
-            Refusal::ElementsWrong => 16,
-            Refusal::AnswerWrong => 17,
-        }
+        self as u32
     }
 }
 
-// What whoever fills a buffer answers is the length written, or why nothing was. As two numbers:
+// What whoever fills a buffer answers, the length written or why nothing was, as two numbers: this one is 0, or the refusal's.
 pub fn writing_number(writing: Result<usize, Refusal>) -> u32
     ensures { result ≡ writing_number writing }
 {
@@ -137,6 +120,7 @@ pub fn writing_number(writing: Result<usize, Refusal>) -> u32
     }
 }
 
+// And this one the length written, or 0.
 pub fn writing_length(writing: Result<usize, Refusal>) -> usize
     ensures { result ≡ writing_length writing }
 {

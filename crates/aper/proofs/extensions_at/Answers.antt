@@ -3,7 +3,7 @@ use mathlib.Core.Bool.{false}
 use mathlib.Core.Path.{refl}
 use native.Mathlib.Omega.{arith}
 use borrow.Author.Tests.{lt-ltb, le-ltb}
-use Rattle.formats.proofs.WalkLaws.{walk_breaks, walk-goes, walk_ends}
+use Rattle.formats.proofs.WalkLaws.{counted_starts, counted_breaks, counted-goes, counted_ends}
 use Rattle.formats.specs.Summary.{or_marked}
 use Rattle.aper.specs.Elements.{marked}
 use Rattle.aper.proofs.WalkLaws.{element-none, element_improper, element-kept, run_none, run_end, run-cut, run-many, run-start}
@@ -15,17 +15,21 @@ returns-then-s-at-lt2 c = run_none _ _ (run-cut _ _ c.requires c.if-s-at-lt2.tru
 pub returns-then-last-ge-MOST_EXTENSIONS : goal.returns-then-last-ge-MOST_EXTENSIONS
 returns-then-last-ge-MOST_EXTENSIONS c = run_none _ _ (run-many _ _ _ (omega arith) c.get16-last.ensures c.if-last-ge-MOST_EXTENSIONS.true)
 
-pub loop-left-init : goal.loop-left-init
-loop-left-init c = run-start _ _ _ (omega arith) c.get16-last.ensures c.if-last-ge-MOST_EXTENSIONS.false
+pub loop-init : goal.loop-init
+loop-init c = counted_starts (run-start _ _ _ (omega arith) c.get16-last.ensures c.if-last-ge-MOST_EXTENSIONS.false)
 
-pub returns-in-NoElement : goal.returns-in-NoElement
-returns-in-NoElement c = run_none _ _ (walk_breaks c.loop-left.invariant c.loop-left-test.true (element-none (λ _. false) (or_marked marked c.loop-left.rejected) _ _ (rw c.in-NoElement.is at c.element_at.ensures)))
+pub returns-in_err-extension : goal.returns-in_err-extension
+returns-in_err-extension c =
+    rw c.from_residual.ensures (run_none _ _ (counted_breaks c.loop.invariant c.loop-test.true (element-none (λ _. false) (or_marked marked c.loop.rejected) _ _ c.in_err-extension.ensures)))
 
-pub loop-left-preserved : goal.loop-left-preserved
-loop-left-preserved c = let m = rw c.in-One.is at c.element_at.ensures in walk-goes c.loop-left.invariant c.loop-left-test.true _ _ (element-kept (λ _. false) (or_marked marked c.loop-left.rejected) _ _ _ _ _ _ m (lt-ltb _ 3 c.if-criticality-lt-CRITICALITIES.true) _ refl) m.lies.1
+pub returns-then-extension-ge-CRITICALITIES : goal.returns-then-extension-ge-CRITICALITIES
+returns-then-extension-ge-CRITICALITIES c =
+    run_none _ _ (counted_breaks c.loop.invariant c.loop-test.true (element_improper (λ _. false) (or_marked marked c.loop.rejected) _ _ _ c.in_ok-extension.ensures (le-ltb _ 3 c.if-extension-ge-CRITICALITIES.true)))
 
-pub returns-else-criticality-lt-CRITICALITIES : goal.returns-else-criticality-lt-CRITICALITIES
-returns-else-criticality-lt-CRITICALITIES c = run_none _ _ (walk_breaks c.loop-left.invariant c.loop-left-test.true (element_improper (λ _. false) (or_marked marked c.loop-left.rejected) _ _ _ _ _ _ (rw c.in-One.is at c.element_at.ensures) (le-ltb _ 3 c.if-criticality-lt-CRITICALITIES.false)))
+pub loop-preserved : goal.loop-preserved
+loop-preserved c =
+    let read = c.in_ok-extension.ensures in
+    counted-goes c.loop.invariant c.loop-test.true _ _ (element-kept (λ _. false) (or_marked marked c.loop.rejected) _ _ _ read (lt-ltb _ 3 c.if-extension-ge-CRITICALITIES.false) _ refl) read.lies.1
 
 pub returns : goal.returns
-returns c = run_end _ _ _ _ (walk_ends c.loop-left.invariant c.loop-left-test.false) c.loop-left.invariant.within
+returns c = run_end _ _ _ _ (counted_ends c.loop.invariant c.loop-test.false) c.loop.invariant.within

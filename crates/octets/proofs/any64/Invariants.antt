@@ -1,20 +1,13 @@
-use Prim.Native.Nat.{ℕ, ◌+◌, ◌*◌, ◌^◌, ◌<◌, ◌≤◌}
+use Prim.Native.Nat.{◌+◌, ◌*◌, ◌-◌}
 use mathlib.Core.Path.{◌≡◌}
-use mathlib.Core.List.{List, map}
-use lib.ListN.{length, drop}
+use mathlib.Core.List.{map}
+use lib.ListN.{drop}
 use Rattle.octets.specs.Numbers.{be}
 use Rattle.octets.specs.Runs.{pieces}
 use Rattle.octets.specs.Turned.{turned}
 use Rattle.octets.specs.Joined.{joined}
 use Rattle.octets.proofs.any64.Given as goal
 
-pub record StillToJoin (s : List ℕ) (at n any from left : ℕ) : Type 0 where
-  pub fits : any < 256 ^ 8
-  pub within : from + 8 * left ≤ length s
-  pub same : joined 0 (map be (pieces 8 n (drop at s))) ≡ joined (turned 8 any) (map be (pieces 8 left (drop from s)))
-
-abbrev pub invariant-loop-left : goal.invariant-loop-left
-invariant-loop-left l = StillToJoin l.s l.at l.n l.any l.from l.left
-
-abbrev pub decreases-loop-left : goal.decreases-loop-left
-decreases-loop-left l = l.left
+-- all of the numbers joined are those still to come joined to what was loaded so far, its bytes turned
+abbrev pub invariant-loop-k : goal.invariant-loop-k
+invariant-loop-k l = joined 0 (map be (pieces 8 l.n (drop l.at l.s))) ≡ joined (turned 8 l.any) (map be (pieces 8 (l.n - l.k) (drop (l.at + 8 * l.k) l.s)))

@@ -1,18 +1,15 @@
 -- `copy` stores all of `from` at the index, and nothing else.
--- The invariant, `Copying`, has the first i bytes stored; a turn stores sixteen more, and the last sixteen end it.
+-- It is written over a part of the slice: `put_mid-sets`.
+use Prim.Native.Nat.{◌+◌, ◌-◌}
+use mathlib.Core.Path.{◌≡◌, refl}
 use native.Mathlib.Omega.{arith}
-use Rattle.octets.proofs.CopyLaws.{copying_starts, copying_goes, copying_ends}
+use lib.ListN.{length}
+use Rattle.octets.proofs.RunsLaws.{put_mid-sets}
 use Rattle.octets.proofs.copy.Goals as goal
-
-pub returns-then-from-lt16 : goal.returns-then-from-lt16
-returns-then-from-lt16 c = c.copy_bytes.ensures
-
-pub loop-i-init : goal.loop-i-init
-loop-i-init c = copying_starts c.args.to.now c.args.at c.args.from.now
-
-pub loop-i-preserved : goal.loop-i-preserved
-loop-i-preserved c = copying_goes c.loop-i.invariant (omega arith) _ c.copy16.ensures
 
 pub returns : goal.returns
 returns c =
-    copying_ends c.loop-i.invariant _ (omega arith) c.loop-i-test.false _ c.copy16-2.ensures
+    let a = c.args in
+    let e : a.at + length a.from.now - a.at ≡ length a.from.now = omega arith in
+    rw (e, c.copy_from_slice.ensures.after)
+    (put_mid-sets a.to.now a.from.now a.at (length a.from.now) refl c.requires)

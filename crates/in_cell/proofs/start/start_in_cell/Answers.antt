@@ -1,55 +1,62 @@
 -- `start_in_cell` does what document 01's Write-Replace says where the zero rules let it start.
 -- The search says whether the text runs and which place is the first free one; then by the rule's tests, in order.
-use mathlib.Core.Path.{◌≡◌, sym, ◌∙◌}
-use mathlib.Core.Bool.{true, false}
+use mathlib.Core.Path.{◌≡◌, sym, ap, ◌∙◌}
 use native.Mathlib.Omega.{arith}
-use Rattle.rules.specs.Record.{concurrent}
-use Rattle.cell_read.specs.Places.{OnePlace}
+use Prim.Native.Nat.{ℕ}
+use Rattle.cell_read.specs.Places.{live_places, OnePlace, index_of}
 use Rattle.in_cell.proofs.ReadyLaws.{ready_formed}
-use Rattle.in_cell.proofs.StartLaws.{Begun, begun, new-one, start_repeats, free_here, free-first, start-alone, start-behind, start_nowhere}
-use Rattle.in_cell.proofs.start.start_in_cell.Goals.{After-seek-sought, Else-not-concurrent, Then-not-concurrent}
+use Rattle.in_cell.proofs.StartLaws.{Begun, new-one, start_repeats, free_here, free-first, start-alone, start-behind, start_nowhere}
+use Rattle.in_cell.proofs.start.start_in_cell.Goals.{After-seek}
 use Rattle.in_cell.proofs.start.start_in_cell.Goals as goal
 
 -- ---- behind the search
-sought : (k : After-seek-sought) → Begun k.args.cell.now k.args.out.now k.args.new.now k.args.request k.seek-sought.result.at k.seek-sought.result.found
-sought k =
-    let bytes = k.slice_known-1 in
-    begun k.args.cell.now k.args.out.now k.args.new.now k.args.request (k.requires.ready, k.requires.start_in) (λ i. (bytes.given i).fits) (omega arith) k.text.ensures k.seek-sought.ensures
 
-one : (k : After-seek-sought) → OnePlace k.args.new.now
-one k = new-one k.args.request k.args.new.now k.requires.start_in
+begun : (c : After-seek) → {at : ℕ} → at ≡ index_of c.text.result (live_places c.args.cell.now) → Begun c.args.cell.now c.args.out.now c.args.new.now c.args.request at
+begun c e =
+    record {
+      ready = c.requires.ready;
+      input = c.requires.start_in;
+      bytes = λ i. (c.slice_known-1.given i).fits;
+      small = omega arith;
+      place = e ∙ ap (λ (text : ℕ). index_of text (live_places c.args.cell.now)) c.text.ensures;
+    }
 
--- flag 1 is absent, or there
-alone : (c : Then-not-concurrent) → concurrent c.args.request ≡ false
-alone c = sym c.concurrent.ensures ∙ c.if-not-concurrent.true
+one : (c : After-seek) → OnePlace c.args.new.now
+one c = new-one c.args.request c.args.new.now c.requires.start_in
 
-more : (c : Else-not-concurrent) → concurrent c.args.request ≡ true
-more c = sym c.concurrent.ensures ∙ c.if-not-concurrent.false
+-- ---- the steps
 
-pub seek-sought-requires : goal.seek-sought-requires
-seek-sought-requires c =
-    ready_formed c.args.cell.now c.args.out.now 1 c.requires.ready (λ i. (c.slice_known-1.given i).fits)
+pub seek-requires : goal.seek-requires
+seek-requires c = ready_formed c.args.cell.now c.args.out.now 1 c.requires.ready (λ i. (c.slice_known-1.given i).fits)
 
-pub returns-then-sought : goal.returns-then-sought
-returns-then-sought c =
-    start_repeats (sought (goal.at.returns-then-sought c).After-seek-sought) c.if-sought.true c.report.ensures
+pub returns-in-Ok : goal.returns-in-Ok
+returns-in-Ok c =
+    let found = c.in-Ok.ensures.found in
+    start_repeats (begun (goal.at.returns-in-Ok c).After-seek found.0) found.1 c.report.ensures
 
 pub add_place-requires : goal.add_place-requires
 add_place-requires c =
-    record { free_at = free-first (sought (goal.at.add_place-requires c).After-seek-sought) c.if-sought.false (alone (goal.at.add_place-requires c).Then-not-concurrent) c.free_all.ensures; one_place = one (goal.at.add_place-requires c).After-seek-sought }
+    let s = (goal.at.add_place-requires c).After-seek in
+    let free = c.in-Err.ensures.missing in
+    record { free_at = free-first (begun s free.0) free.1 (sym c.concurrent.ensures ∙ c.if-not-concurrent.true) c.free_all.ensures; one_place = one s }
 
-pub returns-then-not-concurrent : goal.returns-then-not-concurrent
-returns-then-not-concurrent c =
-    start-alone (sought (goal.at.returns-then-not-concurrent c).After-seek-sought) c.if-sought.false (alone (goal.at.returns-then-not-concurrent c).Then-not-concurrent) c.free_all.ensures c.add_place.ensures c.report-then-not-concurrent.ensures
+pub returns-in-Err : goal.returns-in-Err
+returns-in-Err c =
+    let free = c.in-Err.ensures.missing in
+    start-alone (begun (goal.at.returns-in-Err c).After-seek free.0) free.1 (sym c.concurrent.ensures ∙ c.if-not-concurrent.true) c.free_all.ensures c.add_place.ensures c.report-in-Err.ensures
 
-pub add_place-requires-then-at-lt-PLACES : goal.add_place-requires-then-at-lt-PLACES
-add_place-requires-then-at-lt-PLACES c =
-    record { free_at = free_here (sought (goal.at.add_place-requires-then-at-lt-PLACES c).After-seek-sought) c.if-sought.false c.if-at-lt-PLACES.true; one_place = one (goal.at.add_place-requires-then-at-lt-PLACES c).After-seek-sought }
+pub add_place-requires-in-Err-2 : goal.add_place-requires-in-Err-2
+add_place-requires-in-Err-2 c =
+    let s = (goal.at.add_place-requires-in-Err-2 c).After-seek in
+    let free = c.in-Err.ensures.missing in
+    record { free_at = free_here (begun s free.0) free.1 c.if-free-lt-PLACES.true; one_place = one s }
 
-pub returns-then-at-lt-PLACES : goal.returns-then-at-lt-PLACES
-returns-then-at-lt-PLACES c =
-    start-behind (sought (goal.at.returns-then-at-lt-PLACES c).After-seek-sought) c.if-sought.false (more (goal.at.returns-then-at-lt-PLACES c).Else-not-concurrent) c.if-at-lt-PLACES.true c.add_place-then-at-lt-PLACES.ensures c.report-then-at-lt-PLACES.ensures
+pub returns-in-Err-2 : goal.returns-in-Err-2
+returns-in-Err-2 c =
+    let free = c.in-Err.ensures.missing in
+    start-behind (begun (goal.at.returns-in-Err-2 c).After-seek free.0) free.1 (sym c.concurrent.ensures ∙ c.if-not-concurrent.false) c.if-free-lt-PLACES.true c.add_place-in-Err-2.ensures c.report-in-Err-2.ensures
 
-pub returns : goal.returns
-returns c =
-    start_nowhere (sought (goal.at.returns c).After-seek-sought) c.if-sought.false (more (goal.at.returns c).Else-not-concurrent) c.if-at-lt-PLACES.false
+pub returns-in-Err-3 : goal.returns-in-Err-3
+returns-in-Err-3 c =
+    let free = c.in-Err.ensures.missing in
+    start_nowhere (begun (goal.at.returns-in-Err-3 c).After-seek free.0) free.1 (sym c.concurrent.ensures ∙ c.if-not-concurrent.false) c.if-free-lt-PLACES.false

@@ -1,14 +1,14 @@
--- `cells` reads N, the first two bytes, and names no cells where it is too large.
+-- `cells` reads N, the first two bytes, and names no cells where it is 0 or too large.
+use Rattle.std.proofs.Common.{inl, inr}
 use native.Mathlib.Omega.{arith}
-use Rattle.report_lines.proofs.FrameLaws.{cells-many, cells-few}
+use Rattle.report_lines.proofs.FrameLaws.{cells_some, cells_none}
 use Rattle.report_lines.proofs.frame.cells.Goals as goal
 
-pub returns-then-n-gt-MOST_CELLS : goal.returns-then-n-gt-MOST_CELLS
-returns-then-n-gt-MOST_CELLS c =
-    let n = c.get16-n in
-    record { value = cells-many c.args.held.now n.result n.ensures (omega arith) (omega arith); upper_bound = omega arith }
+pub returns-in-1-to-512-clause-value : goal.returns-in-1-to-512-clause-value
+returns-in-1-to-512-clause-value c = cells_some c.args.held.now c.get16.result c.get16.ensures c.requires (omega arith) (omega arith)
 
-pub returns : goal.returns
-returns c =
-    let n = c.get16-n in
-    record { value = cells-few c.args.held.now n.result n.ensures (omega arith) (omega arith); upper_bound = omega arith }
+pub returns-in_default-clause-value : goal.returns-in_default-clause-value
+returns-in_default-clause-value c = cells_none c.args.held.now c.get16.result c.get16.ensures c.requires (inl (omega arith))
+
+pub returns-in_default-2-clause-value : goal.returns-in_default-2-clause-value
+returns-in_default-2-clause-value c = cells_none c.args.held.now c.get16.result c.get16.ensures c.requires (inr (omega arith))

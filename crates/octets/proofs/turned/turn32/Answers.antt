@@ -1,8 +1,0 @@
--- `turn32` returns the number with its four bytes turned round.
--- Each half is turned, and the halves change places: `turned-run`.
-use native.Mathlib.Omega.{arith}
-use Rattle.octets.proofs.TurnedLaws.{turned-run}
-use Rattle.octets.proofs.turned.turn32.Goals as goal
-
-pub returns : goal.returns
-returns c = omega (arith, turned-run 2 2 c.args.x (omega arith))
