@@ -1,8 +1,10 @@
 -- What the builder writes is the table that `built` asks: the header field by field, then for each head a cell with no live place.
 -- Stores one behind the other are one store (`sets-run`), and a legal head's bytes are those of what it says.
-use mathlib.Core.Path.{◌≡◌, refl, sym, ap, ◌∙◌}
+use mathlib.Core.Path.{◌≡◌, refl, sym, ◌∙◌}
 use mathlib.Core.List.{List, [], ◌++◌, flat_map, append_assoc, append-nil}
-use Prim.Native.Nat.{ℕ, ◌+◌, ◌-◌, ◌*◌, ◌/◌, ◌≤◌, ◌<◌}
+use Prim.Native.Nat.{ℕ, ◌+◌, ◌-◌, ◌*◌, ◌≤◌, ◌<◌}
+use native.Mathlib.Nat.{mul-zero, mul-suc, sub-zero}
+use native.Mathlib.Numerals.{add-one}
 use native.Mathlib.Omega.{arith}
 use borrow.Rule.Slice.PartMut.{mid_of, put_mid}
 use lib.ListN.{length, take, drop, replicate, length-append, length-drop, drop_of_length-le}
@@ -14,7 +16,6 @@ use Rattle.octets.proofs.RunsLaws.{gets_eq, gets_run, length-gets, sets-run, set
 use Rattle.octets.proofs.NumbersLaws.{length-to_be, to_be-gets, to_be_join}
 use Rattle.rules.specs.Layout.{current, places_per_cell, most_cells, header_size, head_size, cell_size, table_mark, version_number}
 use Rattle.rules.specs.Table.{header_bytes}
-use Rattle.table_judge.proofs.OrderLaws.{runs_in, count-more, runs_more, runs_none}
 use Rattle.table_build.specs.Build.{empty_run}
 use Rattle.octets.proofs.PiecesLaws.{pieces_more, pieces_none}
 
@@ -45,9 +46,14 @@ header-stored n h t p q =
 
 -- ---- a cell
 
--- a head that is copied to the front is stored there
-pub head-stored : (cell head new : List ℕ) → length head ≡ head_size current → head_size current ≤ length cell → new ≡ head → new ++ drop (head_size current) cell ≡ sets cell 0 head
-head-stored cell head new long room p = rw (p, sets_front cell head (omega (arith, long)), long)
+-- a head that is stored in three parts is stored whole
+pub head-stored : (cell head : List ℕ) → Bytes head → length head ≡ head_size current → {x y z : ℕ} → x ≡ be (gets head 0 8) → y ≡ be (gets head 8 8) → z ≡ be (gets head 16 8)
+    → {a b c : List ℕ} → a ≡ sets cell 0 (to_be 8 x) → b ≡ sets a 8 (to_be 8 y) → c ≡ sets b 16 (to_be 8 z) → c ≡ sets cell 0 head
+head-stored cell head bytes long x y z p q r =
+    let whole : gets head 0 24 ≡ head = gets_eq 24 head 0 (omega arith) ∙ take_all 24 head (omega arith) in
+    rw (r, q, p, x, y, z, to_be-gets 8 head 0 bytes, to_be-gets 8 head 8 bytes, to_be-gets 8 head 16 bytes)
+    (rw (sets-run (gets head 0 8) (gets head 8 8) cell 0 8 (rw length-gets), gets_run 8 head 0 8 8 refl)
+    (sets-run (gets head 0 16) (gets head 16 8) cell 0 16 (rw length-gets) ∙ rw (gets_run 16 head 0 16 8 refl, whole)))
 
 -- the front copied, and what is behind it cleared: a the list after the copy, z what was lent after the clearing
 front_stored : (w : ℕ) (l front a z : List ℕ) → length front ≡ w → w ≤ length l → a ≡ sets l 0 front → z ≡ replicate (length (mid_of w (length a - w) a)) 0
@@ -69,37 +75,38 @@ pub length-empty_run : (head : List ℕ) → length head ≡ head_size current �
 unfolding empty_run
 length-empty_run head e = rw (length-append, e)
 
--- cells made one by one, each by f of a run of w bytes: t is what k of them left, and rest is what they are still made of
-pub record CellsLeft (f : List ℕ → List ℕ) (w : ℕ) (t₀ source t rest : List ℕ) (k : ℕ) : Type 0 where
-  pub same : sets t₀ header_size (flat_map f (runs_in w source)) ≡ sets t (header_size + cell_size current * k) (flat_map f (runs_in w rest))
+-- cells made one by one, each by f of a run of w bytes: t is what k of them left
+pub record CellsLeft (f : List ℕ → List ℕ) (w count : ℕ) (t₀ source t : List ℕ) (k : ℕ) : Type 0 where
+  pub same : sets t₀ header_size (flat_map f (pieces w count source)) ≡ sets t (header_size + cell_size current * k) (flat_map f (pieces w (count - k) (drop (w * k) source)))
 
-pub cells-start : (f : List ℕ → List ℕ) (w : ℕ) (t₀ source : List ℕ) → CellsLeft f w t₀ source t₀ source 0
-cells-start f w t₀ source = record { same = refl }
+pub cells-start : (f : List ℕ → List ℕ) (w count : ℕ) (t₀ source : List ℕ) → CellsLeft f w count t₀ source t₀ 0
+cells-start f w count t₀ source = record { same = rw (mul-zero, sub-zero) }
 
-pub cells-end : {f : List ℕ → List ℕ} {w : ℕ} {t₀ source t rest : List ℕ} {k : ℕ} → CellsLeft f w t₀ source t rest k → length rest < w
-    → t ≡ sets t₀ header_size (flat_map f (runs_in w source))
+pub cells-end : {f : List ℕ → List ℕ} {w count : ℕ} {t₀ source t : List ℕ} {k : ℕ} → CellsLeft f w count t₀ source t k → count ≤ k
+    → t ≡ sets t₀ header_size (flat_map f (pieces w count source))
 unfolding flat_map
-cells-end {w} {rest} p short = sym (p.same ∙ rw (runs_none w rest short))
+cells-end {w} {count} {source} {k} p end = sym (p.same ∙ rw (pieces_none w (count - k) (drop (w * k) source) (omega arith)))
 
--- a turn: x is the run that it meets, r those behind, and new what it leaves in cell i
-module _ {f : List ℕ → List ℕ} {w : ℕ} {t₀ source t rest : List ℕ} {k : ℕ} (p : CellsLeft f w t₀ source t rest k) (x r : List ℕ) (some : 0 < w) (met : rest ≡ x ++ r) (long : length x ≡ w)
-    (new : List ℕ) (en : new ≡ f x) (sized : length new ≡ cell_size current) {i : ℕ} (ei : i ≡ k) (room : header_size + cell_size current * i + cell_size current ≤ length t) where
+-- a turn: new is what it leaves in cell k
+module _ {f : List ℕ → List ℕ} {w count : ℕ} {t₀ source t : List ℕ} {k : ℕ} (p : CellsLeft f w count t₀ source t k) (more : k < count)
+    (new : List ℕ) (en : new ≡ f (take (w * k + w - w * k) (drop (w * k) source))) (sized : length new ≡ cell_size current)
+    (room : header_size + cell_size current * k + cell_size current ≤ length t) where
   abbrev at : ℕ
-  at = header_size + cell_size current * i
+  at = header_size + cell_size current * k
 
   stored : put_mid at (at + cell_size current - at) t new ≡ sets t at new
   stored =
       let whole : at + cell_size current - at ≡ cell_size current = omega arith in
       rw (whole, sets-eq new t at (omega (arith, sized)), sized, drop-drop (cell_size current) at t, append_assoc)
 
-  pub cells_on : {next : ℕ} → next ≡ k + 1 → CellsLeft f w t₀ source (put_mid at (at + cell_size current - at) t new) r next
+  pub cells_on : CellsLeft f w count t₀ source (put_mid at (at + cell_size current - at) t new) (k + 1)
   unfolding flat_map
-  cells_on {next} en' =
-      let behind : header_size + cell_size current * next ≡ at + cell_size current = omega arith in
-      record { same = p.same ∙ rw (stored, behind, met, runs_more w x r some long, ← en, ← ei, sets-run new _ t at (at + cell_size current) (rw sized)) }
-
--- the cells made and the runs left are as many as the runs
-pub one_made : (w n : ℕ) {rest : List ℕ} (x r : List ℕ) (k : ℕ) {next : ℕ} → 0 < w → rest ≡ x ++ r → length x ≡ w → k + length rest / w ≡ n → next ≡ k + 1 → next + length r / w ≡ n
-one_made w n {rest} x r k some met long e q =
-    let more : length rest / w ≡ length r / w + 1 = ap (λ l. length l / w) met ∙ count-more w x r some long in
-    omega (arith, more)
+  cells_on =
+      let whole : w * k + w - w * k ≡ w = omega arith in
+      let next : w * (k + 1) ≡ w * k + w = rw (add-one k, mul-suc) in
+      let fewer : count - (k + 1) ≡ count - k - 1 = omega arith in
+      let behind : header_size + cell_size current * (k + 1) ≡ at + cell_size current = omega arith in
+      let made : new ≡ f (take w (drop (w * k) source)) = rw whole at en in
+      record {
+        same = p.same ∙ rw (stored, behind, pieces_more w (count - k) (w * k) source (omega arith), next, fewer, ← made, sets-run new _ t at (at + cell_size current) (rw sized));
+      }

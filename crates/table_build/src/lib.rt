@@ -1,7 +1,7 @@
 // The builder: an empty table from cell heads back to back, at the start of a lent buffer.
 #![tactic(auto)]
 
-ghost use Rattle.std.specs.Prelude.{◌≡◌, ◌+◌, ◌*◌, ◌/◌, ◌<◌, ◌≤◌, length};
+ghost use Rattle.std.specs.Prelude.{◌≡◌, ◌+◌, ◌*◌, ◌≤◌, length};
 ghost use mathlib.Core.List.{flat_map};
 ghost use Rattle.std.proofs.lemmas.List.Edits.{sets};
 ghost use Rattle.octets.specs.Runs.{pieces};
@@ -12,7 +12,7 @@ ghost use Rattle.rules.specs.Applied.{filled_by, built};
 ghost use Rattle.table_judge.specs.Judge.{legal_runs};
 ghost use Rattle.table_build.specs.Build.{empty_run, IsMaker};
 
-use octets::put64;
+use octets::{BYTES_64, get64, put64};
 use rules::layout::{CELL, HEAD, HEADER, MOST_CELLS, PLACES, TABLE_MARK, TABLE_VERSION, ZEROS_AT};
 use rules::Refusal;
 use table_judge::{head_legal, runs_legal};
@@ -30,7 +30,7 @@ pub fn build(heads: &[u8], table: &mut [u8]) -> Result<usize, Refusal>
         return Err(Refusal::ShortBuffer);
     }
     put_header(table, count);
-    put_cells(table, heads, HEAD, put_cell);
+    put_cells(table, heads, HEAD, count, put_cell);
     Ok(length)
 }
 
@@ -45,7 +45,7 @@ fn heads_legal(heads: &[u8]) -> bool
     if !((1 <= count) & (count <= MOST_CELLS)) {
         return false;
     }
-    runs_legal(heads, HEAD, head_legal)
+    runs_legal(heads, HEAD, count, head_legal)
 }
 
 // The converter asks this too. The eight zeros, and before them mark, version, N and the places of a cell as one number.
@@ -62,16 +62,17 @@ pub fn put_header(table: &mut [u8], count: usize)
     put64(table, ZEROS_AT, 0);
 }
 
-// Cells behind the header, each made by the caller of a run of one size. The converter asks this too.
-pub fn put_cells<F: Fn(&mut [u8], &[u8])>(table: &mut [u8], runs: &[u8], size: usize, make: F)
-    requires not_endless { 0 < size }
-    requires room { header_size + cell_size current * (length runs.now / size) ≤ length table.old }
+// Cells behind the header, each made by the caller of one of so many runs of one size. The converter asks this too.
+pub fn put_cells<F: Fn(&mut [u8], &[u8])>(table: &mut [u8], runs: &[u8], size: usize, count: usize, make: F)
+    requires runs_whole { size * count ≤ length runs.now }
+    requires room { header_size + cell_size current * count ≤ length table.old }
     requires may_be_asked { (cell : _) (run : _) → length cell.now ≡ cell_size current → length run.now ≡ size → F.pre make cell run }
-    ensures { (made : _) → IsMaker F.Fn make made → table.new ≡ sets table.old header_size (flat_map made (pieces size (length runs.now / size) runs.now)) }
+    ensures { (made : _) → IsMaker F.Fn make made → table.new ≡ sets table.old header_size (flat_map made (pieces size count runs.now)) }
 {
-    for (k, run) in runs.chunks_exact(size).enumerate() {
+    for k in 0..count {
         let at = HEADER + CELL * k;
-        make(&mut table[at..at + CELL], run);
+        let from = size * k;
+        make(&mut table[at..at + CELL], &runs[from..from + size]);
     }
 }
 
@@ -88,5 +89,7 @@ pub fn put_head(cell: &mut [u8], head: &[u8])
     requires { (length head.now ≡ head_size current) × (head_size current ≤ length cell.old) }
     ensures { cell.new ≡ sets cell.old 0 head.now }
 {
-    cell[..HEAD].copy_from_slice(head);
+    put64(cell, 0, get64(head, 0));
+    put64(cell, BYTES_64, get64(head, BYTES_64));
+    put64(cell, 2 * BYTES_64, get64(head, 2 * BYTES_64));
 }

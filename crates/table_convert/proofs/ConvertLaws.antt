@@ -3,10 +3,10 @@
 use Rattle.std.specs.Prelude.{Ok, Err}
 use mathlib.Core.Path.{◌≡◌, sym, ◌∙◌}
 use mathlib.Core.List.{List, ◌++◌, flat_map}
-use Prim.Native.Nat.{ℕ, ◌+◌, ◌-◌, ◌*◌, ◌/◌, ◌≤◌, ◌<◌}
+use Prim.Native.Nat.{ℕ, ◌+◌, ◌-◌, ◌*◌, ◌≤◌, ◌<◌}
 use native.Mathlib.Omega.{arith}
 use borrow.Author.Tests.{le-leb, lt-leb}
-use lib.ListN.{length, take, drop, length-drop}
+use lib.ListN.{length, take, drop}
 use lib.Seq.{sets}
 use Rattle.octets.specs.Runs.{gets, pieces, Bytes}
 use Rattle.octets.specs.Numbers.{be}
@@ -27,8 +27,6 @@ use Rattle.rules.proofs.LegalTableLaws.{table-accepted}
 use Rattle.rules.proofs.OlderLaws.{older-verdict}
 use Rattle.rules.proofs.ConvertedLaws.{converted_by, length-converted}
 use Rattle.table_judge.proofs.PiecesLaws.{take_rest}
-use Rattle.table_judge.proofs.OrderLaws.{runs_in}
-use Rattle.table_judge.proofs.JudgeLaws.{runs-cells}
 use Rattle.table_convert.specs.Wide.{wide_cell}
 use Rattle.table_convert.proofs.WideCellLaws.{wide-bytes}
 
@@ -43,12 +41,6 @@ module _ (old : List ℕ) (accepted : older_verdict old ≡ Ok tt) where
 
   pub old-size : length old ≡ header_size + cell_size version1 * cell_count old
   old-size = (table-accepted version1 old one).size
-
-  -- the runs that are converted are as many
-  pub runs-count : length (take (length old - header_size) (drop header_size old)) / cell_size version1 ≡ cell_count old
-  runs-count =
-      let size : length (drop header_size old) ≡ cell_size version1 * cell_count old = rw length-drop (omega (arith, old-size)) in
-      rw (take_rest, size) (omega arith)
 
   pub old-few : cell_count old ≤ most_cells
   old-few = (table-accepted version1 old one).few
@@ -74,7 +66,7 @@ module _ (old : List ℕ) (accepted : older_verdict old ≡ Ok tt) where
       )
 
   pub table-converted : Bytes old → (t : List ℕ) {n : ℕ} → n ≡ be (gets old 5 2) → header_size + cell_size current * n ≤ length t
-      → {a b : List ℕ} → a ≡ sets t 0 (header_bytes current n) → b ≡ sets a header_size (flat_map wide_cell (runs_in (cell_size version1) (take (length old - header_size) (drop header_size old))))
+      → {a b : List ℕ} → a ≡ sets t 0 (header_bytes current n) → b ≡ sets a header_size (flat_map wide_cell (pieces (cell_size version1) n (take (length old - header_size) (drop header_size old))))
       → filled_by (Ok (header_size + cell_size current * n)) b ≡ conversion old t
   unfolding conversion fill
   table-converted bytes t e room p q =
@@ -82,4 +74,4 @@ module _ (old : List ℕ) (accepted : older_verdict old ≡ Ok tt) where
       let long = length-converted version1 old one bytes in
       let fits = le-leb (header_size + cell_size current * cell_count old) (length t) (rw c at room) in
       let behind = sets-run (header_bytes current (cell_count old)) (flat_map wide_cell (cell_runs version1 old)) t 0 header_size (rw (length-header_bytes current)) in
-      rw (convert_chain old (length t), accepted, fits, long, widened bytes, q, p, runs-cells version1 old old-size, c, behind)
+      rw (convert_chain old (length t), accepted, fits, long, widened bytes, q, p, take_rest, c, behind)

@@ -8,7 +8,7 @@ ghost use Rattle.table_convert.specs.Wide.{short_periods};
 use crate::wide::widen_places;
 use octets::get16;
 use rules::layout::{
-    CELL_1, HEAD, HEADER, LONGEST_PERIOD_1, PERIOD_AT, PLACE, PLACE_1, PLACES, VERSION_1,
+    CELL_1, CELLS_AT, HEAD, HEADER, LONGEST_PERIOD_1, PERIOD_AT, PLACE, PLACE_1, PLACES, VERSION_1,
 };
 use rules::Refusal;
 use table_judge::{head_legal, header_legal, marked, places_legal, runs_legal};
@@ -23,7 +23,8 @@ pub fn verdict(old: &[u8]) -> Result<(), Refusal>
     if !header_legal(old, CELL_1) {
         return Err(Refusal::TableWrong);
     }
-    if !runs_legal(&old[HEADER..], CELL_1, old_cell_legal) {
+    let count = get16(old, CELLS_AT) as usize;
+    if !runs_legal(&old[HEADER..], CELL_1, count, old_cell_legal) {
         return Err(Refusal::TableWrong);
     }
     Ok(())

@@ -34,6 +34,6 @@ fn converted(old: &[u8], table: &mut [u8]) -> Result<usize, Refusal>
         return Err(Refusal::ShortBuffer);
     }
     put_header(table, count);
-    put_cells(table, &old[HEADER..], CELL_1, widen);
+    put_cells(table, &old[HEADER..], CELL_1, count, widen);
     Ok(length)
 }

@@ -5,7 +5,6 @@ use mathlib.Core.Path.{◌≡◌, sym, ◌∙◌}
 use mathlib.Core.Bool.{Bool, true, false, not, ◌&&◌, and_assoc, and-false}
 use mathlib.Core.List.{List}
 use Prim.Native.Nat.{ℕ, ◌+◌, ◌-◌, ◌*◌, ◌≤◌, ◌<◌}
-use native.Mathlib.Nat.{mul-div_right}
 use native.Mathlib.Omega.{arith}
 use borrow.Author.Tests.{eqb-true, not-true, not-false}
 use lib.Dec.{eqb, leb}
@@ -14,14 +13,13 @@ use Rattle.octets.specs.Runs.{gets, pieces}
 use Rattle.octets.specs.Numbers.{be}
 use Rattle.octets.specs.Fields.{offset, field_of}
 use Rattle.octets.proofs.FieldsLaws.{field_at}
-use Rattle.rules.specs.Layout.{Version, version1, version2, version_number, cells_in_header, places_in_header, zero_in_header, header_fields, places_per_cell, header_size, cell_size, most_cells}
+use Rattle.rules.specs.Layout.{Version, version_number, cells_in_header, places_in_header, zero_in_header, header_fields, places_per_cell, header_size, cell_size, most_cells}
 use Rattle.rules.specs.Table.{cell_count, cell_runs, legal_cell, table_marked, legal_table}
 use Rattle.rules.specs.Refusals.{table_verdict}
 use Rattle.rules.specs.declared.Refusal.TheVariants.{TableMark, TableWrong}
 use Rattle.rules.proofs.TestLaws.{both}
 use Rattle.table_judge.specs.Judge.{legal_header, legal_runs}
 use Rattle.table_judge.proofs.PiecesLaws.{take_rest}
-use Rattle.table_judge.proofs.OrderLaws.{runs_in}
 
 module _ (v : Version) where
   table_parts : (t : List ℕ) → legal_table v t ≡ legal_header (cell_size v) t && legal_runs v (legal_cell v) (cell_runs v t)
@@ -38,21 +36,17 @@ module _ (v : Version) where
       let size = header_size + cell_size v * cell_count t in
       eqb-true (length t) size (both (few && four && spare) (eqb (length t) size) e).1
 
-  some : 0 < cell_size v
-  some = by_version v
-    where
-      by_version : (v : Version) → 0 < cell_size v
-      by_version version1 = omega arith
-      by_version version2 = omega arith
+  -- the header was found legal
+  module _ (t : List ℕ) (h : true ≡ legal_header (cell_size v) t) where
+    pub header-long : header_size ≤ length t
+    header-long = omega (arith, header-size t (sym h))
 
-  -- the runs behind the header are the cells that it counts
-  pub runs-cells : (t : List ℕ) → length t ≡ header_size + cell_size v * cell_count t → runs_in (cell_size v) (take (length t - header_size) (drop header_size t)) ≡ cell_runs v t
-  runs-cells t e =
-      let size : length (drop header_size t) ≡ cell_size v * cell_count t = rw length-drop (omega arith) in
-      rw (take_rest, size, mul-div_right (cell_count t) some)
+    count : (n : ℕ) → n ≡ be (gets t 5 2) → n ≡ cell_count t
+    unfolding offset
+    count n en = en ∙ sym (field_at header_fields cells_in_header t (omega (arith, header-long)))
 
-  pub header-long : (t : List ℕ) → true ≡ legal_header (cell_size v) t → header_size ≤ length t
-  header-long t h = omega (arith, header-size t (sym h))
+    pub runs-size : (n : ℕ) → n ≡ be (gets t 5 2) → length (take (length t - header_size) (drop header_size t)) ≡ cell_size v * n
+    runs-size n en = rw (take_rest, length-drop, count n en) (omega (arith, header-size t (sym h)))
 
   module _ (t : List ℕ) where
     pub unmarked : false ≡ table_marked (version_number v) t → Err TableMark ≡ table_verdict v t
@@ -67,9 +61,10 @@ module _ (v : Version) where
       pub header-wrong : false ≡ legal_header (cell_size v) t → Err TableWrong ≡ table_verdict v t
       header-wrong h = refused (table_parts t ∙ rw (← h))
 
-      module _ (h : true ≡ legal_header (cell_size v) t) {r : Bool} (er : r ≡ legal_runs v (legal_cell v) (runs_in (cell_size v) (take (length t - header_size) (drop header_size t)))) where
+      module _ (h : true ≡ legal_header (cell_size v) t) (n : ℕ) (en : n ≡ be (gets t 5 2))
+          {r : Bool} (er : r ≡ legal_runs v (legal_cell v) (pieces (cell_size v) n (take (length t - header_size) (drop header_size t)))) where
         cells : legal_table v t ≡ r
-        cells = table_parts t ∙ rw (← h, ← runs-cells t (header-size t (sym h))) (sym er)
+        cells = table_parts t ∙ rw (← h, ← count t h n en, ← take_rest) (sym er)
 
         pub cells-wrong : r ≡ false → Err TableWrong ≡ table_verdict v t
         cells-wrong e = refused (cells ∙ e)

@@ -2,15 +2,14 @@
 -- The invariant speaks of the runs still to come; a turn peels one.
 use mathlib.Core.Path.{◌≡◌, refl, sym, subst, ◌∙◌}
 use mathlib.Core.Bool.{Bool, true, false, not, ◌&&◌, and_assoc, and-false}
-use mathlib.Core.List.{List, [], ◌∷◌, ◌++◌, map}
-use Prim.Native.Nat.{ℕ, ◌+◌, ◌/◌, ◌≤◌, ◌<◌}
-use native.Mathlib.Nat.{add-div_left, div-eq_of_lt}
+use mathlib.Core.List.{List, [], ◌∷◌, map}
+use Prim.Native.Nat.{ℕ, ◌+◌, ◌-◌, ◌*◌, ◌≤◌, ◌<◌}
+use native.Mathlib.Nat.{mul-zero, mul-suc, sub-zero}
 use native.Mathlib.Numerals.{add-one}
 use native.Mathlib.Omega.{arith}
 use borrow.Author.Tests.{le-leb, lt-leb}
 use lib.Dec.{leb, leb-zero}
-use lib.ListN.{length, take, length-append}
-use lib.Seq.{take_at, drop_at}
+use lib.ListN.{take, drop}
 use Rattle.octets.specs.Runs.{pieces}
 use Rattle.octets.specs.Fields.{size, field_of}
 use Rattle.octets.proofs.FieldsLaws.{numbers-take}
@@ -21,7 +20,7 @@ use Rattle.rules.proofs.HeadCodec.{legal-head}
 use Rattle.rules.proofs.CellCodec.{legal-cell}
 use Rattle.rules.proofs.LayoutLaws.{head-size}
 use Rattle.table_judge.specs.Judge.{legal_runs}
-use Rattle.octets.proofs.PiecesLaws.{pieces_none}
+use Rattle.octets.proofs.PiecesLaws.{pieces_more, pieces_none}
 
 -- strictly ascending, and none below a bound
 unfoldable pub rising_from : ℕ → List ℕ → Bool
@@ -41,49 +40,42 @@ ascending-rising (x ∷ xs) = rw (leb-zero x) (above-rising x xs)
 unfoldable pub legal_from : Version → (List ℕ → Bool) → ℕ → List (List ℕ) → Bool
 legal_from v f least bs = every f bs && rising_from least (map (identity_at v) bs)
 
--- the runs of w bytes that a list holds
-abbrev pub runs_in : ℕ → List ℕ → List (List ℕ)
-runs_in w l = pieces w (length l / w) l
+-- the first `count` runs of w bytes in l are judged as those from k on are, none below the least
+pub record RunsLeft (f : List ℕ → Bool) (w count : ℕ) (l : List ℕ) (k least : ℕ) : Type 0 where
+  pub same : legal_runs current f (pieces w count l) ≡ legal_from current f least (pieces w (count - k) (drop (w * k) l))
 
--- one more
-pub count-more : (w : ℕ) (x rest : List ℕ) → 0 < w → length x ≡ w → length (x ++ rest) / w ≡ length rest / w + 1
-count-more w x rest some long = rw (length-append, long, add-div_left (length rest) some)
-
-pub runs_more : (w : ℕ) (x rest : List ℕ) → 0 < w → length x ≡ w → runs_in w (x ++ rest) ≡ x ∷ runs_in w rest
-unfolding pieces
-runs_more w x rest some long = rw (count-more w x rest some long, add-one (length rest / w), take_at x rest w long, drop_at x rest w long)
-
-pub runs_none : (w : ℕ) (l : List ℕ) → length l < w → runs_in w l ≡ []
-runs_none w l short = rw (div-eq_of_lt short) (pieces_none w 0 l (omega arith))
-
--- the runs in l are judged as those are that are left, none below the least
-pub record RunsLeft (f : List ℕ → Bool) (w : ℕ) (l rest : List ℕ) (least : ℕ) : Type 0 where
-  pub same : legal_runs current f (runs_in w l) ≡ legal_from current f least (runs_in w rest)
-
-pub runs-start : (f : List ℕ → Bool) (w : ℕ) (l : List ℕ) → RunsLeft f w l l 0
+pub runs-start : (f : List ℕ → Bool) (w count : ℕ) (l : List ℕ) → RunsLeft f w count l 0 0
 unfolding legal_runs legal_from
-runs-start f w l = record { same = rw ascending-rising }
+runs-start f w count l = record { same = rw (mul-zero, sub-zero, ascending-rising) }
 
-pub runs-end : {f : List ℕ → Bool} {w : ℕ} {l rest : List ℕ} {least : ℕ} → RunsLeft f w l rest least → length rest < w → legal_runs current f (runs_in w l) ≡ true
+pub runs-end : {f : List ℕ → Bool} {w count : ℕ} {l : List ℕ} {k least : ℕ} → RunsLeft f w count l k least → count ≤ k → legal_runs current f (pieces w count l) ≡ true
 unfolding legal_from every rising_from
-runs-end {w} {rest} p short = p.same ∙ rw (runs_none w rest short)
+runs-end {w} {count} {l} {k} p end = p.same ∙ rw (pieces_none w (count - k) (drop (w * k) l) (omega arith))
 
--- a turn: x is the run that it meets, r those behind, and i the NR CGI of x
-module _ {f : List ℕ → Bool} {w : ℕ} {l rest : List ℕ} {least : ℕ} (p : RunsLeft f w l rest least) (wide : head_size current ≤ w)
-    (x r : List ℕ) (met : rest ≡ x ++ r) (long : length x ≡ w) (i : ℕ) (ei : i ≡ identity_at current x) where
-  turn : legal_runs current f (runs_in w l) ≡ (f x && every f (runs_in w r)) && (leb least i && rising_from (i + 1) (map (identity_at current) (runs_in w r)))
+-- a turn: i is the NR CGI of the run that it meets
+module _ {f : List ℕ → Bool} {w count : ℕ} {l : List ℕ} {k least : ℕ} (p : RunsLeft f w count l k least) (more : k < count) where
+  -- the run
+  abbrev met : List ℕ
+  met = take (w * k + w - w * k) (drop (w * k) l)
+
+  turn : legal_runs current f (pieces w count l)
+      ≡ (f met && every f (pieces w (count - (k + 1)) (drop (w * (k + 1)) l))) && (leb least (identity_at current met) && rising_from (identity_at current met + 1) (map (identity_at current) (pieces w (count - (k + 1)) (drop (w * (k + 1)) l))))
   unfolding legal_from every rising_from
-  turn = p.same ∙ rw (met, runs_more w x r (omega arith) long, ← ei)
+  turn =
+      let whole : w * k + w - w * k ≡ w = omega arith in
+      let next : w * (k + 1) ≡ w * k + w = rw (add-one k, mul-suc) in
+      let fewer : count - (k + 1) ≡ count - k - 1 = omega arith in
+      p.same ∙ rw (pieces_more w (count - k) (w * k) l (omega arith), whole, next, fewer)
 
-  pub runs-below : i < least → legal_runs current f (runs_in w l) ≡ false
-  runs-below b = turn ∙ rw (lt-leb least i b, and-false)
+  pub runs-below : (i : ℕ) → i ≡ identity_at current met → i < least → legal_runs current f (pieces w count l) ≡ false
+  runs-below i e low = turn ∙ rw (← e, lt-leb least i low, and-false)
 
-  pub runs-wrong : f x ≡ false → legal_runs current f (runs_in w l) ≡ false
-  runs-wrong e = turn ∙ rw e
+  pub runs-wrong : f met ≡ false → legal_runs current f (pieces w count l) ≡ false
+  runs-wrong wrong = turn ∙ rw wrong
 
-  pub runs_on : least ≤ i → f x ≡ true → RunsLeft f w l r (i + 1)
+  pub runs_on : (i : ℕ) → i ≡ identity_at current met → least ≤ i → f met ≡ true → RunsLeft f w count l (k + 1) (i + 1)
   unfolding legal_from
-  runs_on b e = record { same = turn ∙ rw (e, le-leb least i b) }
+  runs_on i e order right = record { same = turn ∙ rw (right, ← e, le-leb least i order) }
 
 module _ (v : Version) where
   -- ---- the two tests of a run

@@ -1,7 +1,7 @@
 // The judge of a table: each rule of document 01, "The table", is tested where the bytes stand, in one pass.
 #![tactic(auto)]
 
-ghost use Rattle.std.specs.Prelude.{true, ◌≡◌, ◌+◌, ◌*◌, ◌/◌, ◌<◌, ◌≤◌, length, drop};
+ghost use Rattle.std.specs.Prelude.{true, ◌≡◌, ◌+◌, ◌*◌, ◌<◌, ◌≤◌, length, drop};
 ghost use Rattle.octets.specs.Numbers.{be};
 ghost use Rattle.octets.specs.Runs.{gets, pieces};
 ghost use Rattle.rules.specs.Lists.{larger, every};
@@ -40,7 +40,8 @@ pub fn verdict(table: &[u8]) -> Result<(), Refusal>
     if !header_legal(table, CELL) {
         return Err(Refusal::TableWrong);
     }
-    if !runs_legal(&table[HEADER..], CELL, cell_legal) {
+    let count = get16(table, CELLS_AT) as usize;
+    if !runs_legal(&table[HEADER..], CELL, count, cell_legal) {
         return Err(Refusal::TableWrong);
     }
     Ok(())
@@ -71,16 +72,20 @@ pub fn header_legal(table: &[u8], cell: usize) -> bool
         & (table.len() == HEADER + cell * count)
 }
 
-// Runs of one size back to back, cells or heads of some version: each legal by the caller's test, and in order.
+// So many runs of one size back to back, cells or heads of some version: each legal by the caller's test, and in order.
 // `least` is the least NR CGI that may follow. The builder and the converter ask this too.
-pub fn runs_legal<F: Fn(&[u8]) -> bool>(runs: &[u8], size: usize, legal: F) -> bool
+// Stays: an index and a count, since `chunks_exact` has four instructions more for each cell, and the count out of the length four for a call.
+pub fn runs_legal<F: Fn(&[u8]) -> bool>(runs: &[u8], size: usize, count: usize, legal: F) -> bool
     requires heads_whole { head_size current ≤ size }
+    requires runs_whole { length runs.now ≡ size * count }
     requires may_be_asked { (run : _) → length run.now ≡ size → F.pre legal run }
     requires has_a_next { (run : _) → F.post legal run true → identity_at current run.now < cell_end }
-    ensures { (test : _) → IsTest F.Fn legal test → result ≡ legal_runs current test (pieces size (length runs.now / size) runs.now) }
+    ensures { (test : _) → IsTest F.Fn legal test → result ≡ legal_runs current test (pieces size count runs.now) }
 {
     let mut least = CellIdentity(0);
-    for run in runs.chunks_exact(size) {
+    for k in 0..count {
+        let at = size * k;
+        let run = &runs[at..at + size];
         let identity = identity_at(run, 0);
         if identity < least {
             return false;

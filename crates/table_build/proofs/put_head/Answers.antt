@@ -1,7 +1,10 @@
 -- `put_head` stores the head at the start of the cell, and nothing else.
--- What is copied to the front is stored there: `head-stored`.
+-- Eight bytes that are read and stored are the same bytes, and three such stores are one: `head-stored`.
 use Rattle.table_build.proofs.BuildLaws.{head-stored}
 use Rattle.table_build.proofs.put_head.Goals as goal
 
 pub returns : goal.returns
-returns c = head-stored c.args.cell.now c.args.head.now _ c.requires.0 c.requires.1 c.copy_from_slice.ensures.after
+returns c =
+    head-stored c.args.cell.now c.args.head.now (λ i. (c.type_inv.head i).fits) c.requires.0
+    c.get64.ensures c.get64-2.ensures c.get64-3.ensures
+    c.put64.ensures c.put64-2.ensures c.put64-3.ensures

@@ -2,7 +2,7 @@
 -- Each way out is the case of the verdict that its test leads to; few cells make every sum fit.
 use native.Mathlib.Omega.{arith}
 use Rattle.table_convert.specs.Wide.{wide_cell}
-use Rattle.table_convert.proofs.ConvertLaws.{old-size, runs-count, old-few, old-count, room-short, table-converted}
+use Rattle.table_convert.proofs.ConvertLaws.{old-size, old-few, old-count, room-short, table-converted}
 use Rattle.table_convert.proofs.converted.Goals as goal
 
 pub get16-count-requires : goal.get16-count-requires
@@ -23,10 +23,10 @@ slice_bounds-put_cells-count c = let size = old-size _ c.requires in omega arith
 pub slice_bounds-put_cells-start : goal.slice_bounds-put_cells-start
 slice_bounds-put_cells-start c = let size = old-size _ c.requires in omega arith
 
-pub put_cells-requires-clause-room : goal.put_cells-requires-clause-room
-put_cells-requires-clause-room c =
+pub put_cells-requires-clause-runs_whole : goal.put_cells-requires-clause-runs_whole
+put_cells-requires-clause-runs_whole c =
+    let size = old-size _ c.requires in
     let few = old-count _ c.requires c.get16-count.ensures in
-    let runs = runs-count _ c.requires in
     omega arith
 
 pub returns : goal.returns
