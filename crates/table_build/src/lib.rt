@@ -12,9 +12,9 @@ ghost use Rattle.rules.specs.Applied.{filled_by, built};
 ghost use Rattle.table_judge.specs.Judge.{legal_runs};
 ghost use Rattle.table_build.specs.Build.{empty_run, IsMaker};
 
-use octets::{BYTES_64, get64, put64};
-use rules::layout::{CELL, HEAD, HEADER, MOST_CELLS, PLACES, TABLE_MARK, TABLE_VERSION, ZEROS_AT};
+use octets::{Number, get, put};
 use rules::Refusal;
+use rules::layout::{CELL, HEAD, HEADER, MOST_CELLS, PLACES, TABLE_MARK, TABLE_VERSION, ZEROS_AT};
 use table_judge::{head_legal, runs_legal};
 
 // Any heads, any buffer: refusal 9, then 8; else the header, then each head with free places behind it. Bytes beyond stay.
@@ -54,16 +54,22 @@ pub fn put_header(table: &mut [u8], count: usize)
     ensures { table.new ≡ sets table.old 0 (header_bytes current count) }
 {
     let marked = (TABLE_MARK as u64) * 65536 + (TABLE_VERSION as u64);
-    put64(
+    put(
         table,
         0,
         (marked * 65536 + (count as u64)) * 256 + (PLACES as u64),
     );
-    put64(table, ZEROS_AT, 0);
+    put::<u64>(table, ZEROS_AT, 0);
 }
 
 // Cells behind the header, each made by the caller of one of so many runs of one size. The converter asks this too.
-pub fn put_cells<F: Fn(&mut [u8], &[u8])>(table: &mut [u8], runs: &[u8], size: usize, count: usize, make: F)
+pub fn put_cells<F: Fn(&mut [u8], &[u8])>(
+    table: &mut [u8],
+    runs: &[u8],
+    size: usize,
+    count: usize,
+    make: F,
+)
     requires runs_whole { size * count ≤ length runs.now }
     requires room { header_size + cell_size current * count ≤ length table.old }
     requires may_be_asked { (cell : _) (run : _) → length cell.now ≡ cell_size current → length run.now ≡ size → F.pre make cell run }
@@ -89,7 +95,7 @@ pub fn put_head(cell: &mut [u8], head: &[u8])
     requires { (length head.now ≡ head_size current) × (head_size current ≤ length cell.old) }
     ensures { cell.new ≡ sets cell.old 0 head.now }
 {
-    put64(cell, 0, get64(head, 0));
-    put64(cell, BYTES_64, get64(head, BYTES_64));
-    put64(cell, 2 * BYTES_64, get64(head, 2 * BYTES_64));
+    put(cell, 0, get::<u64>(head, 0));
+    put(cell, u64::BYTES, get::<u64>(head, u64::BYTES));
+    put(cell, 2 * u64::BYTES, get::<u64>(head, 2 * u64::BYTES));
 }

@@ -6,11 +6,11 @@ ghost use Rattle.rules.specs.Refusals.{older_verdict};
 ghost use Rattle.table_convert.specs.Wide.{short_periods};
 
 use crate::wide::widen_places;
-use octets::get16;
+use octets::get;
+use rules::Refusal;
 use rules::layout::{
     CELL_1, CELLS_AT, HEAD, HEADER, LONGEST_PERIOD_1, PERIOD_AT, PLACE, PLACE_1, PLACES, VERSION_1,
 };
-use rules::Refusal;
 use table_judge::{head_legal, header_legal, marked, places_legal, runs_legal};
 
 // Any bytes: accepted, or refusal 1 if they are no table of an older version, or 2 by that version's rules.
@@ -23,7 +23,7 @@ pub fn verdict(old: &[u8]) -> Result<(), Refusal>
     if !header_legal(old, CELL_1) {
         return Err(Refusal::TableWrong);
     }
-    let count = get16(old, CELLS_AT) as usize;
+    let count = get::<u16>(old, CELLS_AT) as usize;
     if !runs_legal(&old[HEADER..], CELL_1, count, old_cell_legal) {
         return Err(Refusal::TableWrong);
     }
@@ -44,8 +44,8 @@ fn periods_short(cell: &[u8]) -> bool
     requires { length cell.now ≡ cell_size version1 }
     ensures { result ≡ short_periods cell.now }
 {
-    (get16(cell, HEAD + PERIOD_AT) as u32 <= LONGEST_PERIOD_1)
-        & (get16(cell, HEAD + PLACE_1 + PERIOD_AT) as u32 <= LONGEST_PERIOD_1)
-        & (get16(cell, HEAD + 2 * PLACE_1 + PERIOD_AT) as u32 <= LONGEST_PERIOD_1)
-        & (get16(cell, HEAD + 3 * PLACE_1 + PERIOD_AT) as u32 <= LONGEST_PERIOD_1)
+    (get::<u16>(cell, HEAD + PERIOD_AT) as u32 <= LONGEST_PERIOD_1)
+        & (get::<u16>(cell, HEAD + PLACE_1 + PERIOD_AT) as u32 <= LONGEST_PERIOD_1)
+        & (get::<u16>(cell, HEAD + 2 * PLACE_1 + PERIOD_AT) as u32 <= LONGEST_PERIOD_1)
+        & (get::<u16>(cell, HEAD + 3 * PLACE_1 + PERIOD_AT) as u32 <= LONGEST_PERIOD_1)
 }

@@ -10,9 +10,9 @@ ghost use Rattle.rules.specs.Applied.{filled_by, conversion};
 
 use crate::judge::verdict;
 use crate::wide::widen;
-use octets::get16;
-use rules::layout::{CELL, CELL_1, CELLS_AT, HEADER};
+use octets::get;
 use rules::Refusal;
+use rules::layout::{CELL, CELL_1, CELLS_AT, HEADER};
 use table_build::{put_cells, put_header};
 
 // Any bytes, any buffer: refusals 1 and 2 of a table of an older version, then 8; else the same cells in the current layout. Bytes beyond stay.
@@ -28,7 +28,7 @@ fn converted(old: &[u8], table: &mut [u8]) -> Result<usize, Refusal>
     requires { older_verdict old.now ≡ Ok tt }
     ensures { filled_by result table.new ≡ conversion old.now table.old }
 {
-    let count = get16(old, CELLS_AT) as usize;
+    let count = get::<u16>(old, CELLS_AT) as usize;
     let length = HEADER + CELL * count;
     if table.len() < length {
         return Err(Refusal::ShortBuffer);

@@ -5,16 +5,16 @@ use Rattle.table_convert.specs.Wide.{wide_cell}
 use Rattle.table_convert.proofs.ConvertLaws.{old-size, old-few, old-count, room-short, table-converted}
 use Rattle.table_convert.proofs.converted.Goals as goal
 
-pub get16-count-requires : goal.get16-count-requires
-get16-count-requires c = let size = old-size _ c.requires in omega arith
+pub get-count-requires : goal.get-count-requires
+get-count-requires c = let size = old-size _ c.requires in omega arith
 
 pub returns-then-table-length : goal.returns-then-table-length
-returns-then-table-length c = room-short _ c.requires _ c.get16-count.ensures (omega (arith, c.if-table-length.true))
+returns-then-table-length c = room-short _ c.requires _ c.get-count.ensures (omega (arith, c.if-table-length.true))
 
 pub put_header-requires : goal.put_header-requires
 put_header-requires c =
     let few = old-few _ c.requires in
-    let count = old-count _ c.requires c.get16-count.ensures in
+    let count = old-count _ c.requires c.get-count.ensures in
     (omega arith, omega arith)
 
 pub slice_bounds-put_cells-count : goal.slice_bounds-put_cells-count
@@ -26,10 +26,10 @@ slice_bounds-put_cells-start c = let size = old-size _ c.requires in omega arith
 pub put_cells-requires-clause-runs_whole : goal.put_cells-requires-clause-runs_whole
 put_cells-requires-clause-runs_whole c =
     let size = old-size _ c.requires in
-    let few = old-count _ c.requires c.get16-count.ensures in
+    let few = old-count _ c.requires c.get-count.ensures in
     omega arith
 
 pub returns : goal.returns
 returns c =
-    table-converted _ c.requires (λ i. (c.type_inv.old i).fits) _ c.get16-count.ensures (omega (arith, c.if-table-length.false))
+    table-converted _ c.requires (λ i. (c.type_inv.old i).fits) _ c.get-count.ensures (omega (arith, c.if-table-length.false))
     c.put_header.ensures (c.put_cells.ensures wide_cell (λ cell run left e. e))

@@ -14,8 +14,8 @@ returns-then-not-marked c = unmarked current _ c.if-not-marked.ensures
 pub returns-then-not-header_legal : goal.returns-then-not-header_legal
 returns-then-not-header_legal c = header-wrong current _ c.if-not-marked.ensures c.if-not-header_legal.ensures
 
-pub get16-count-requires : goal.get16-count-requires
-get16-count-requires c = let long = header-long current _ c.if-not-header_legal.ensures in omega arith
+pub get-count-requires : goal.get-count-requires
+get-count-requires c = let long = header-long current _ c.if-not-header_legal.ensures in omega arith
 
 pub slice_bounds-runs_legal-count : goal.slice_bounds-runs_legal-count
 slice_bounds-runs_legal-count c = header-long current _ c.if-not-header_legal.ensures
@@ -27,14 +27,14 @@ pub runs_legal-requires-clause-has_a_next : goal.runs_legal-requires-clause-has_
 runs_legal-requires-clause-has_a_next c run legal = cell-small current run.now (sym legal)
 
 pub runs_legal-requires-clause-runs_whole : goal.runs_legal-requires-clause-runs_whole
-runs_legal-requires-clause-runs_whole c = runs-size current _ c.if-not-header_legal.ensures _ c.get16-count.ensures
+runs_legal-requires-clause-runs_whole c = runs-size current _ c.if-not-header_legal.ensures _ c.get-count.ensures
 
 pub returns-then-not-runs_legal : goal.returns-then-not-runs_legal
 returns-then-not-runs_legal c =
-    cells-wrong current _ c.if-not-marked.ensures c.if-not-header_legal.ensures _ c.get16-count.ensures (c.runs_legal.ensures (legal_cell current) (λ run r e. e))
+    cells-wrong current _ c.if-not-marked.ensures c.if-not-header_legal.ensures _ c.get-count.ensures (c.runs_legal.ensures (legal_cell current) (λ run r e. e))
     c.if-not-runs_legal.true
 
 pub returns : goal.returns
 returns c =
-    table_right current _ c.if-not-marked.ensures c.if-not-header_legal.ensures _ c.get16-count.ensures (c.runs_legal.ensures (legal_cell current) (λ run r e. e))
+    table_right current _ c.if-not-marked.ensures c.if-not-header_legal.ensures _ c.get-count.ensures (c.runs_legal.ensures (legal_cell current) (λ run r e. e))
     c.if-not-runs_legal.false

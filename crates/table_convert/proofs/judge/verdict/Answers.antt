@@ -16,8 +16,8 @@ returns-then-not-marked c = unmarked version1 _ c.if-not-marked.ensures ∙ sym 
 pub returns-then-not-header_legal : goal.returns-then-not-header_legal
 returns-then-not-header_legal c = header-wrong version1 _ c.if-not-marked.ensures c.if-not-header_legal.ensures ∙ sym (older-verdict _)
 
-pub get16-count-requires : goal.get16-count-requires
-get16-count-requires c = let long = header-long version1 _ c.if-not-header_legal.ensures in omega arith
+pub get-count-requires : goal.get-count-requires
+get-count-requires c = let long = header-long version1 _ c.if-not-header_legal.ensures in omega arith
 
 pub slice_bounds-runs_legal-count : goal.slice_bounds-runs_legal-count
 slice_bounds-runs_legal-count c = header-long version1 _ c.if-not-header_legal.ensures
@@ -29,16 +29,16 @@ pub runs_legal-requires-clause-has_a_next : goal.runs_legal-requires-clause-has_
 runs_legal-requires-clause-has_a_next c run legal = rw same-identity (cell-small version1 run.now (sym legal))
 
 pub runs_legal-requires-clause-runs_whole : goal.runs_legal-requires-clause-runs_whole
-runs_legal-requires-clause-runs_whole c = runs-size version1 _ c.if-not-header_legal.ensures _ c.get16-count.ensures
+runs_legal-requires-clause-runs_whole c = runs-size version1 _ c.if-not-header_legal.ensures _ c.get-count.ensures
 
 pub returns-then-not-runs_legal : goal.returns-then-not-runs_legal
 returns-then-not-runs_legal c =
     cells-wrong version1 _ c.if-not-marked.ensures c.if-not-header_legal.ensures
-    _ c.get16-count.ensures (c.runs_legal.ensures (legal_cell version1) (λ run r e. e) ∙ same-runs _ _) c.if-not-runs_legal.true
+    _ c.get-count.ensures (c.runs_legal.ensures (legal_cell version1) (λ run r e. e) ∙ same-runs _ _) c.if-not-runs_legal.true
     ∙ sym (older-verdict _)
 
 pub returns : goal.returns
 returns c =
     table_right version1 _ c.if-not-marked.ensures c.if-not-header_legal.ensures
-    _ c.get16-count.ensures (c.runs_legal.ensures (legal_cell version1) (λ run r e. e) ∙ same-runs _ _) c.if-not-runs_legal.false
+    _ c.get-count.ensures (c.runs_legal.ensures (legal_cell version1) (λ run r e. e) ∙ same-runs _ _) c.if-not-runs_legal.false
     ∙ sym (older-verdict _)
