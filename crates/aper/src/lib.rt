@@ -4,7 +4,7 @@
 ghost use Rattle.std.specs.Prelude.{◌≡◌, ◌<◌, ◌≤◌, length};
 ghost use Rattle.aper.specs.Readers.{LengthAt, ElementAt, RunAt, GivenAt};
 
-use octets::{get8, get16};
+use octets::get;
 
 // A length, and where what it is of begins.
 #[derive(Clone, Copy)]
@@ -75,8 +75,8 @@ pub fn element_at(s: &[u8], at: usize) -> Option<Element>
     if s.len() - at < 3 {
         return None;
     }
-    let id = get16(s, at);
-    let bits = get8(s, at + 2);
+    let id = get::<u16>(s, at);
+    let bits = get::<u8>(s, at + 2);
     if bits % 64 != 0 {
         return None;
     }
@@ -103,7 +103,7 @@ fn extensions_at(s: &[u8], at: usize) -> Option<Extensions>
     if s.len() - at < 2 {
         return None;
     }
-    let last = get16(s, at) as usize;
+    let last = get::<u16>(s, at) as usize;
     if MOST_EXTENSIONS <= last {
         return None;
     }

@@ -1,15 +1,16 @@
 -- The search among the items: those still to come decide, and where the search stands is how many it has looked at.
 -- And what names a cell: its keys say of an item what document 01 says.
-use mathlib.Core.Path.{◌≡◌, refl, sym, ◌∙◌}
+use mathlib.Core.Path.{◌≡◌, refl, sym, ap, ◌∙◌}
 use mathlib.Core.Bool.{Bool, true, false, cond, ◌||◌, or-false}
-use mathlib.Core.List.{List, [], ◌∷◌}
+use mathlib.Core.List.{List, [], ◌∷◌, map}
 use Prim.Native.Nat.{ℕ, zero, suc, ◌+◌, ◌^◌, ◌<◌, ◌≤◌}
 use native.Mathlib.Nat.{zero-add}
 use native.Mathlib.Omega.{arith}
 use borrow.Author.Tests.{ne_eqb}
 use lib.Dec.{eqb}
-use lib.ListN.{length, take, drop, drop_of_length-le}
+use lib.ListN.{length, take, drop, get_or, drop_of_length-le}
 use lib.Seq.{take-nil}
+use Rattle.octets.specs.Turned.{turned}
 use Rattle.octets.proofs.TurnedLaws.{turned-twice}
 use Rattle.rules.specs.Lists.{any, one_of, up_to}
 use Rattle.rules.specs.Table.{Head}
@@ -75,7 +76,7 @@ module _ (area : ℕ) (items : List ℕ) (h : Head) (by : ℕ → Bool) where
 -- ---- what names a cell
 
 -- the keys in use, compared one by one
-pub by_keys : (n x a b c d : ℕ)
+by_keys : (n x a b c d : ℕ)
     → one_of x (take n (a ∷ b ∷ c ∷ d ∷ []))
     ≡ cond (eqb n 0) false (eqb x a || cond (eqb n 1) false (eqb x b || cond (eqb n 2) false (eqb x c || cond (eqb n 3) false (eqb x d))))
 unfolding one_of any
@@ -86,6 +87,23 @@ by_keys (suc (suc (suc zero))) x a b c d = refl
 by_keys (suc (suc (suc (suc n)))) x a b c d =
     let not : (k : ℕ) → k < 4 → eqb (suc (suc (suc (suc n)))) k ≡ false = λ k h. ne_eqb _ k (λ e. omega (arith, e, h)) in
     rw (take-nil n, or-false (eqb x d), not 0 (omega arith), not 1 (omega arith), not 2 (omega arith), not 3 (omega arith))
+
+-- four numbers are those that are read at the four places
+pub four-read : (all : List ℕ) → length all ≡ 4 → get_or all 0 0 ∷ get_or all 1 0 ∷ get_or all 2 0 ∷ get_or all 3 0 ∷ [] ≡ all
+four-read [] e = absurd (omega arith)
+four-read (a ∷ []) e = absurd (omega arith)
+four-read (a ∷ b ∷ []) e = absurd (omega arith)
+four-read (a ∷ b ∷ c ∷ []) e = absurd (omega arith)
+four-read (a ∷ b ∷ c ∷ d ∷ []) e = refl
+four-read (a ∷ b ∷ c ∷ d ∷ x ∷ more) e = absurd (omega arith)
+
+-- what names a cell, key by key
+pub named_by_keys : (s : Naming) (x : ℕ) → length s.turned ≡ 4
+    → named_by s x
+    ≡ cond (eqb s.keys 0) false (eqb x (turned 8 (get_or s.turned 0 0)) || cond (eqb s.keys 1) false (eqb x (turned 8 (get_or s.turned 1 0)) || cond (eqb s.keys 2) false (eqb x (turned 8 (get_or s.turned 2 0)) || cond (eqb s.keys 3) false (eqb x (turned 8 (get_or s.turned 3 0))))))
+unfolding named_by keys_in
+named_by_keys s x long =
+    ap (λ (l : List ℕ). one_of x (take s.keys (map (turned 8) l))) (sym (four-read s.turned long)) ∙ by_keys s.keys x _ _ _ _
 
 -- a key that was turned is the number again where it is compared
 pub keys-back : (s : Naming) (n a b c d : ℕ) → s ≡ turned_keys n (a ∷ b ∷ c ∷ d ∷ []) → a < 256 ^ 8 → b < 256 ^ 8 → c < 256 ^ 8 → d < 256 ^ 8

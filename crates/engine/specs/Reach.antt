@@ -1,5 +1,5 @@
 -- What names a cell, read once for each cell before the items are looked through.
-use Rattle.std.specs.Prelude.{◌≡◌, Bool, List, [], ◌∷◌, ℕ, take, get_or}
+use Rattle.std.specs.Prelude.{◌≡◌, Bool, List, [], ◌∷◌, map, ℕ, take, get_or}
 use Rattle.octets.specs.Turned.{turned}
 use Rattle.rules.specs.Lists.{one_of}
 use Rattle.rules.specs.Identity.{cell_item, tracking_item}
@@ -11,8 +11,7 @@ use Rattle.engine.specs.declared.reach.Naming.{Naming}
 
 -- the keys in use, each turned back
 unfoldable pub keys_in : Naming → List ℕ
-keys_in s =
-    take s.keys (turned 8 s.first ∷ turned 8 s.second ∷ turned 8 s.third ∷ turned 8 s.fourth ∷ [])
+keys_in s = take s.keys (map (turned 8) s.turned)
 
 -- whether an item is one of them
 unfoldable pub named_by : Naming → ℕ → Bool
@@ -23,10 +22,7 @@ unfoldable pub turned_keys : ℕ → List ℕ → Naming
 turned_keys n keys =
     record {
       keys = n;
-      first = turned 8 (get_or keys 0 0);
-      second = turned 8 (get_or keys 1 0);
-      third = turned 8 (get_or keys 2 0);
-      fourth = turned 8 (get_or keys 3 0);
+      turned = map (turned 8) (get_or keys 0 0 ∷ get_or keys 1 0 ∷ get_or keys 2 0 ∷ get_or keys 3 0 ∷ []);
     }
 
 -- by the area's kind, out of the bytes of a head: its NR CGI, its tracking area as an item, its emergency areas in use

@@ -1,5 +1,5 @@
 // What a cell is sought by: read once for each cell and turned as the items lie, so that an item costs a comparison for each key.
-ghost use Rattle.std.specs.Prelude.{◌≡◌, [], ◌∷◌, ℕ, ◌+◌, ◌≤◌, length, take};
+ghost use Rattle.std.specs.Prelude.{◌≡◌, ℕ, ◌+◌, ◌≤◌, length, take};
 ghost use Rattle.octets.specs.Runs.{gets};
 ghost use Rattle.octets.specs.Numbers.{be};
 ghost use Rattle.rules.specs.Lists.{one_of};
@@ -15,21 +15,22 @@ use rules::kind::{CELLS, EMERGENCY_AREAS, TRACKING_AREAS};
 #[derive(Clone, Copy)]
 pub struct Naming {
     pub keys: u8,
-    pub first: u64,
-    pub second: u64,
-    pub third: u64,
-    pub fourth: u64,
+    pub turned: [u64; 4],
 }
 
-fn keyed(keys: u8, first: u64, second: u64, third: u64, fourth: u64) -> Naming
-    ensures { (result ≡ turned_keys keys (first ∷ second ∷ third ∷ fourth ∷ [])) × ((x : ℕ) → named_by result x ≡ one_of x (take keys (first ∷ second ∷ third ∷ fourth ∷ []))) }
+fn keyed(keys: u8, all: [u64; 4]) -> Naming
+    ensures turned { result ≡ turned_keys keys all }
+    ensures meant { (x : ℕ) → named_by result x ≡ one_of x (take keys all) }
 {
+    let [first, second, third, fourth] = all;
     Naming {
-        keys: keys,
-        first: turned64(first),
-        second: turned64(second),
-        third: turned64(third),
-        fourth: turned64(fourth),
+        keys,
+        turned: [
+            turned64(first),
+            turned64(second),
+            turned64(third),
+            turned64(fourth),
+        ],
     }
 }
 
@@ -38,50 +39,50 @@ pub fn naming_of(cell: &[u8], area: u8) -> Naming
     requires { length cell.now ≡ cell_size current }
     ensures { KeysOf area (take (head_size current) cell.now) result }
 {
-    if area == CELLS {
-        return keyed(1, identity(cell).cell_item(), 0, 0, 0);
+    match area {
+        CELLS => keyed(1, [identity(cell).cell_item(), 0, 0, 0]),
+        TRACKING_AREAS => keyed(1, [tracking(cell), 0, 0, 0]),
+        EMERGENCY_AREAS => {
+            let areas = areas_of(cell);
+            let [first, second, third, fourth] = areas.all;
+            keyed(
+                areas.used,
+                [first as u64, second as u64, third as u64, fourth as u64],
+            )
+        }
+        _ => keyed(0, [0; 4]),
     }
-    if area == TRACKING_AREAS {
-        return keyed(1, tracking(cell), 0, 0, 0);
-    }
-    if area == EMERGENCY_AREAS {
-        let areas = areas_of(cell);
-        return keyed(
-            areas.used,
-            areas.all[0] as u64,
-            areas.all[1] as u64,
-            areas.all[2] as u64,
-            areas.all[3] as u64,
-        );
-    }
-    keyed(0, 0, 0, 0, 0)
 }
 
 // Whether the item at an index is one of the keys in use.
+// Stays: a test for each key and no loop over them, since this is asked for each item of each cell. In a trial of both loops alone, over
+// 512 items that match nothing and 512 cells, the tests took 110 µs with one key and 258 with four, a `for` over the keys 259 and 766, and
+// `s.turned.iter().take(s.keys as usize).any(..)` 342 and 766.
 pub fn named(s: Naming, req: &[u8], at: usize) -> bool
     requires { at + item_size current ≤ length req.now }
     ensures { result ≡ named_by s (be (gets req.now at (item_size current))) }
 {
+    let [first, second, third, fourth] = s.turned;
     if s.keys == 0 {
         return false;
     }
-    if says64(req, at, s.first) {
+    if says64(req, at, first) {
         return true;
     }
     if s.keys == 1 {
         return false;
     }
-    if says64(req, at, s.second) {
+    if says64(req, at, second) {
         return true;
     }
     if s.keys == 2 {
         return false;
     }
-    if says64(req, at, s.third) {
+    if says64(req, at, third) {
         return true;
     }
     if s.keys == 3 {
         return false;
     }
-    says64(req, at, s.fourth)
+    says64(req, at, fourth)
 }

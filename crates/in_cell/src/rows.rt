@@ -5,7 +5,7 @@ ghost use Rattle.rules.specs.Layout.{current, cell_size, row_size};
 ghost use Rattle.rules.specs.InCell.{reported};
 ghost use Rattle.in_cell.specs.Step.{rows_bytes};
 
-use answer::put_row;
+use answer::{Row, put_row};
 use cell_read::identity;
 use rules::Broadcasts;
 
@@ -15,5 +15,13 @@ pub fn report(cell: &[u8], count: Broadcasts, out: &mut [u8])
     ensures { out.new ≡ sets out.old 0 (rows_bytes cell.now (reported count.0)) }
 {
     let identity = identity(cell);
-    put_row(out, 0, identity, count, 0);
+    put_row(
+        out,
+        0,
+        Row {
+            identity,
+            count,
+            content: 0,
+        },
+    );
 }

@@ -1,10 +1,11 @@
--- The tests 5, 6 and 7 of the rules (specs/Record, specs/Refusals there), over the numbers that they ask for: which fields are zero, and which bits are set in the items, is told.
+-- The tests 5, 6 and 7 of the rules (specs/Record, specs/Refusals there), of a request of which it is told which fields are zero, and which bits are set in its items.
 -- That each says what the rules say is proved once, in ToldLaws.
-use Rattle.std.specs.Prelude.{Bool, false, cond, not, ◌&&◌, ◌||◌, [], ◌∷◌, ℕ, ◌/◌, ◌%◌, eqb, ltb, leb}
+use Rattle.std.specs.Prelude.{Bool, false, cond, not, ◌&&◌, ◌||◌, [], ◌∷◌, ℕ, eqb, ltb, leb}
 use Rattle.rules.specs.Lists.{one_of}
 use Rattle.rules.specs.Layout.{first_sib, last_sib}
-use Rattle.rules.specs.Record.{write_replace, cancel_or_kill, Kind, a_write_replace, a_cancel, a_restart, a_failure, a_second, unknown_kind, kind_of, no_area, cell_area, any_area, item_end}
+use Rattle.rules.specs.Record.{write_replace, Kind, a_write_replace, a_cancel, a_restart, a_failure, a_second, unknown_kind, kind_of, no_area, cell_area, any_area, item_end, cancels_nothing}
 use Rattle.rules.specs.Refusals.{test, first_of, Verdict}
+use Rattle.rules.specs.declared.Request.{Request}
 use Rattle.rules.specs.declared.Seconds.{Seconds}
 use Rattle.rules.specs.declared.Refusal.TheVariants.{RecordFields, RecordLimits, CancelsNothing}
 
@@ -24,24 +25,19 @@ area_told area n = cond (eqb area no_area) (eqb n 0) (not (eqb n 0))
 
 -- ---- 6
 
-abbrev pub text_told : ℕ → Seconds → ℕ → Seconds → Bool
-text_told kind period sib longest =
-    not (eqb kind write_replace) || leb period.0 longest.0 && leb first_sib sib && leb sib last_sib
+abbrev pub text_told : Request → Seconds → Bool
+text_told q longest =
+    not (eqb q.kind write_replace) || leb q.period.0 longest.0 && leb first_sib q.sib && leb q.sib last_sib
 
 abbrev pub items_told : ℕ → ℕ → ℕ → Bool
 items_told area n any = eqb n 0 || ltb any (item_end area)
 
--- ---- 7
-
-abbrev pub nothing_told : ℕ → ℕ → Bool
-nothing_told kind flags = eqb kind cancel_or_kill && not (eqb (flags / 2 % 2) 1) && not (eqb (flags / 4 % 2) 1)
-
 -- ---- in their order
 
-unfoldable pub told_verdict : (kind flags area : ℕ) (period : Seconds) (sib : ℕ) (textless omitted : Bool) (n any : ℕ) (longest : Seconds) → Verdict
-told_verdict kind flags area period sib textless omitted n any longest =
+unfoldable pub told_verdict : (q : Request) (textless omitted : Bool) (n any : ℕ) (longest : Seconds) → Verdict
+told_verdict q textless omitted n any longest =
     first_of
-    (test (kind_told (kind_of kind) flags area textless omitted && area_told area n) RecordFields
-    ∷ test (text_told kind period sib longest && items_told area n any) RecordLimits
-    ∷ test (not (nothing_told kind flags)) CancelsNothing
+    (test (kind_told (kind_of q.kind) q.flags q.area textless omitted && area_told q.area n) RecordFields
+    ∷ test (text_told q longest && items_told q.area n any) RecordLimits
+    ∷ test (not (cancels_nothing q)) CancelsNothing
     ∷ [])

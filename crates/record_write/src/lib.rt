@@ -67,11 +67,7 @@ fn verdict(request: Request, items: &[u64], room: usize) -> Result<(), Refusal>
     }
     let any = any_item(items);
     judged(
-        request.kind,
-        request.flags,
-        request.area,
-        request.period,
-        request.sib,
+        request,
         no_text(request),
         cancel_zeros(request),
         n,

@@ -14,12 +14,12 @@ ghost use Rattle.wire_cells.specs.Listed.{JudgedList, rows_listed};
 ghost use Rattle.responses.specs.ResponseRead.{kind_answered, response_read};
 ghost use Rattle.response_read.specs.Left.{meant_by, answer_left};
 
-use answer::{length_with, put_head, put_row};
+use answer::{Row, length_with, put_head, put_row};
 use octets::get16;
 use response_judge::{Judged, Met, judge};
+use rules::Refusal;
 use rules::kind::{CANCEL_OR_KILL, WRITE_REPLACE};
 use rules::layout::{ANSWER, ROW};
-use rules::Refusal;
 use wire::form::WRITE_REPLACE_RESPONSE;
 use wire::{Message, Taking};
 use wire_cells::{cell_at, cell_count};
@@ -50,7 +50,15 @@ fn put_rows(m: Message, answer: &mut [u8], cells: &[u8])
     let mut out = ANSWER;
     while 0 < left {
         let cell = cell_at(m, cells, at);
-        put_row(answer, out, cell.identity, cell.count, 0);
+        put_row(
+            answer,
+            out,
+            Row {
+                identity: cell.identity,
+                count: cell.count,
+                content: 0,
+            },
+        );
         out += ROW;
         at = cell.end;
         left -= 1;

@@ -1,4 +1,5 @@
 -- Contents of a fixed number of bytes: what is told of them follows from what is found in exactly so many, and in no other number of bytes is a value.
+use Rattle.std.specs.Prelude.{Some, None}
 use mathlib.Core.Path.{◌≡◌, refl, sym, ap, ◌∙◌}
 use mathlib.Core.Bool.{true, false}
 use mathlib.Core.List.{List, [], ◌∷◌}
@@ -21,7 +22,7 @@ use Rattle.wire.specs.Messages.{the_transaction, the_requested, the_indicator}
 use Rattle.wire.specs.MessageTree.{Contents, transaction, requested, cancel_all, transaction_fields, contents_by}
 use Rattle.wire.specs.declared.Message.TheVariants.{CancelRequest}
 use Rattle.wire.specs.Readers.{kept, Tells}
-use Rattle.wire.specs.declared.Heard.TheVariants.{Transaction, Requested, CancelAll, Bad}
+use Rattle.wire.specs.declared.Heard.TheVariants.{Transaction, Requested, CancelAll}
 
 -- contents that are said otherwise are told of by what is all of the bytes
 told : {A : Type 0} (to : A → Contents) (x y : Found A) → all_of x [] ≡ y → all_of (summed kept (after x (λ a r. found (to a) r))) [] ≡ summed (λ a. kept (to a)) y
@@ -84,27 +85,27 @@ blank-set n other =
     (λ t. rw t)
 
 module _ (l : List ℕ) where
-  pub indicator-length : (length l ≡ 1 → ⊥) → Tells (contents_by CancelRequest the_indicator) l Bad
+  pub indicator-length : (length l ≡ 1 → ⊥) → Tells (contents_by CancelRequest the_indicator) l None
   unfolding contents_by as_if
   indicator-length other = sym (told (λ vs. cancel_all) ((bits 1 blank_fields).parse l) nothing (bits-not_all l 1 blank_fields other))
 
   module _ (n : ℕ) (h : length l ≡ 1) (here : n ≡ be (gets l 0 1)) where
-    pub indicator-set : (n ≡ 0 → ⊥) → Tells (contents_by CancelRequest the_indicator) l Bad
+    pub indicator-set : (n ≡ 0 → ⊥) → Tells (contents_by CancelRequest the_indicator) l None
     unfolding contents_by as_if
     indicator-set other = sym (told (λ vs. cancel_all) ((bits 1 blank_fields).parse l) nothing (bits-refused l 1 blank_fields n h here (blank-set n other)))
 
-    pub indicator-there : n ≡ 0 → Tells (contents_by CancelRequest the_indicator) l CancelAll
+    pub indicator-there : n ≡ 0 → Tells (contents_by CancelRequest the_indicator) l (Some CancelAll)
     unfolding contents_by as_if
     indicator-there e = sym (told (λ vs. cancel_all) ((bits 1 blank_fields).parse l) (found (cut blank_fields n) []) (bits_all l 1 blank_fields n h here (blank-padded n e)))
 
 -- ---- the number of broadcasts
 
 module _ (l : List ℕ) where
-  pub requested-length : (length l ≡ 2 → ⊥) → Tells (contents_by CancelRequest the_requested) l Bad
+  pub requested-length : (length l ≡ 2 → ⊥) → Tells (contents_by CancelRequest the_requested) l None
   unfolding contents_by as_if
   requested-length other = sym (told requested ((number 2).parse l) nothing (number-not_all l 2 other))
 
-  pub requested-there : (n : ℕ) → length l ≡ 2 → n ≡ be (gets l 0 2) → Tells (contents_by CancelRequest the_requested) l (Requested n)
+  pub requested-there : (n : ℕ) → length l ≡ 2 → n ≡ be (gets l 0 2) → Tells (contents_by CancelRequest the_requested) l (Some (Requested n))
   unfolding contents_by as_if
   requested-there n h here = rw here (sym (told requested ((number 2).parse l) (found (be (gets l 0 2)) []) (number_all l 2 h)))
 
@@ -129,7 +130,7 @@ transaction-set n h =
     (λ t. rw t)
 
 module _ (l : List ℕ) where
-  pub transaction-length : (length l ≡ 2 → ⊥) → Tells (contents_by CancelRequest the_transaction) l Bad
+  pub transaction-length : (length l ≡ 2 → ⊥) → Tells (contents_by CancelRequest the_transaction) l None
   unfolding contents_by as_if
   transaction-length other = sym (told (λ vs. transaction (get_or vs 0 0)) ((bits 2 transaction_fields).parse l) nothing (bits-not_all l 2 transaction_fields other))
 
@@ -137,13 +138,13 @@ module _ (l : List ℕ) where
     two : be (gets l 0 1) * 256 + be (gets l 1 1) ≡ be (gets l 0 2)
     two = be-run 1 1 l 0 1 refl
 
-    pub transaction-extended : (first ≡ 0 → ⊥) → Tells (contents_by CancelRequest the_transaction) l Bad
+    pub transaction-extended : (first ≡ 0 → ⊥) → Tells (contents_by CancelRequest the_transaction) l None
     unfolding contents_by as_if
     transaction-extended other =
         let large : 256 ≤ be (gets l 0 2) = omega (arith, other, two) in
         sym (told (λ vs. transaction (get_or vs 0 0)) ((bits 2 transaction_fields).parse l) nothing (bits-refused l 2 transaction_fields (be (gets l 0 2)) h refl (transaction-set (be (gets l 0 2)) large)))
 
-    pub transaction-there : first ≡ 0 → (t : ℕ) → t ≡ be (gets l 1 1) → t < 256 → Tells (contents_by CancelRequest the_transaction) l (Transaction t)
+    pub transaction-there : first ≡ 0 → (t : ℕ) → t ≡ be (gets l 1 1) → t < 256 → Tells (contents_by CancelRequest the_transaction) l (Some (Transaction t))
     unfolding contents_by as_if
     transaction-there e t second small =
         let all : t ≡ be (gets l 0 2) = omega (arith, two) in

@@ -1,4 +1,5 @@
 -- What an element tells, by its id: the id names the reader of its contents, and of an unknown one nothing is read.
+use Rattle.std.specs.Prelude.{Option, Some}
 use mathlib.Core.Path.{◌≡◌, refl}
 use mathlib.Core.List.{List}
 use Prim.Native.Nat.{ℕ}
@@ -12,11 +13,11 @@ use Rattle.wire.specs.declared.Message.TheVariants.{CancelRequest, CancelRespons
 use Rattle.wire.specs.declared.Heard.{Heard}
 use Rattle.wire.specs.declared.Heard.TheVariants.{Unknown}
 
-pub unread : (m : Message) (l : List ℕ) → Tells (contents_by m unknown) l Unknown
+pub unread : (m : Message) (l : List ℕ) → Tells (contents_by m unknown) l (Some Unknown)
 unfolding contents_by as_if opaque
 unread m l = refl
 
-module _ (m : Message) (l : List ℕ) (id : ℕ) (r : Heard) where
+module _ (m : Message) (l : List ℕ) (id : ℕ) (r : Option Heard) where
   pub transaction-tells : id ≡ transaction_id → Tells (contents_by CancelRequest the_transaction) l r → Tells (contents m id) l r
   unfolding contents contents_by
   transaction-tells e t = rw e t
@@ -38,10 +39,10 @@ nothing-further CancelResponse other id = refl
 nothing-further WriteReplaceResponse other id = refl
 
 -- what only a cancel request has
-abbrev pub FurtherTells : List ℕ → ℕ → Heard → Type 0
+abbrev pub FurtherTells : List ℕ → ℕ → Option Heard → Type 0
 FurtherTells l id r = Tells (contents_by CancelRequest (further_name CancelRequest id)) l r
 
-module _ (l : List ℕ) (id : ℕ) (r : Heard) where
+module _ (l : List ℕ) (id : ℕ) (r : Option Heard) where
   pub requested-tells : id ≡ requested_id → Tells (contents_by CancelRequest the_requested) l r → FurtherTells l id r
   requested-tells e t = rw e t
 
@@ -51,5 +52,5 @@ module _ (l : List ℕ) (id : ℕ) (r : Heard) where
   pub notification-tells : id ≡ notification_id → Tells (contents_by CancelRequest the_notification) l r → FurtherTells l id r
   notification-tells e t = rw e t
 
-pub unknown-tells : (l : List ℕ) (id : ℕ) → (id ≡ requested_id → ⊥) → (id ≡ cancel_all_id → ⊥) → (id ≡ notification_id → ⊥) → FurtherTells l id Unknown
+pub unknown-tells : (l : List ℕ) (id : ℕ) → (id ≡ requested_id → ⊥) → (id ≡ cancel_all_id → ⊥) → (id ≡ notification_id → ⊥) → FurtherTells l id (Some Unknown)
 unknown-tells l id a b c = rw (ne_eqb id requested_id a, ne_eqb id cancel_all_id b, ne_eqb id notification_id c) (unread CancelRequest l)

@@ -1,4 +1,5 @@
 -- Bytes that are to be an item and nothing else, case by case.
+use Rattle.std.specs.Prelude.{Some, None}
 use mathlib.Core.Path.{◌≡◌, refl, sym, ap, ◌∙◌}
 use mathlib.Core.Bool.{Bool, true, false, ◌&&◌, ◌||◌}
 use mathlib.Core.List.{List, [], ◌∷◌}
@@ -20,21 +21,20 @@ use Rattle.rules.proofs.TestLaws.{both, by_test}
 use Rattle.formats.proofs.ReadLaws.{number_cut, number-found, bits-set, bits-found}
 use Rattle.aper.specs.Elements.{Extensions, given, marked}
 use Rattle.aper.specs.Readers.{GivenAt}
-use Rattle.aper.specs.declared.Run.TheVariants.{Upto, NoRun}
+use Rattle.aper.specs.declared.Extensions.{Extensions as Run}
 use Rattle.wire.specs.Messages.{count_size}
 use Rattle.wire.specs.Cells.{Item, flag_fields, cell_fields, ItemHead, item_head, item_under, item}
 use Rattle.wire.specs.Readers.{graded, ItemGraded}
 use Rattle.wire.specs.declared.Message.{Message}
-use Rattle.wire.specs.declared.Grade.TheVariants.{Fine, NoItem}
 use Rattle.wire.proofs.CellsFormat.{item-short}
 use Rattle.formats.proofs.PairLaws.{behind_it, marks_either, pair_broken, pair_broken_later, pair-summed}
 
 -- ---- too few bytes
 
-no_item : (m : Message) (l : List ℕ) → (item m).parse l ≡ nothing → ItemGraded m l NoItem
+no_item : (m : Message) (l : List ℕ) → (item m).parse l ≡ nothing → ItemGraded m l None
 no_item m l e = ap (λ (x : Found Item). all_of (summed graded x) []) (sym e)
 
-pub item-cut : (m : Message) (l : List ℕ) → Bytes l → length l < 9 → ItemGraded m l NoItem
+pub item-cut : (m : Message) (l : List ℕ) → Bytes l → length l < 9 → ItemGraded m l None
 item-cut m l bytes h = no_item m l (item-short m l bytes h)
 
 -- ---- the fixed bytes
@@ -99,7 +99,7 @@ module _ (m : Message) (l : List ℕ) (f b : ℕ) (long : 9 ≤ length l) (flags
       second : (a b : Bool) → a ≡ true → a && b ≡ false → b ≡ false
       second a b p q = rw p at q
 
-  pub fixed_bad : test ≡ false → ItemGraded m l NoItem
+  pub fixed_bad : test ≡ false → ItemGraded m l None
   unfolding item behind
   fixed_bad t = no_item m l (rw (head-none t))
 
@@ -154,44 +154,44 @@ module _ (m : Message) (l : List ℕ) (f b : ℕ) (long : 9 ≤ length l) (flags
     whole : (x : Found Bool) → summed Marks Two ≡ x → all_of (summed graded ((item m).parse l)) [] ≡ with_number x
     whole x e = ap (λ (y : Found Item). all_of (summed graded y) []) under ∙ same Two ∙ ap with_number e
 
-    pub first-none : GivenAt l 9 (f / 16 % 2) NoRun → ItemGraded m l NoItem
+    pub first-none : GivenAt l 9 (f / 16 % 2) None → ItemGraded m l None
     first-none read = sym (whole nothing (pair_broken (any marked) Own Later ((given (f / 16 % 2)).parse (drop 9 l)) (sym read.says)))
 
-    module _ (next : ℕ) (g : Bool) (first : GivenAt l 9 (f / 16 % 2) (Upto next g)) where
-      broken_later : summed Own (Later (drop next l)) ≡ nothing → ItemGraded m l NoItem
-      broken_later e = sym (whole nothing (pair_broken_later (any marked) Own Later ((given (f / 16 % 2)).parse (drop 9 l)) g (drop next l) (sym first.says) e))
+    module _ (one : Run) (first : GivenAt l 9 (f / 16 % 2) (Some one)) where
+      broken_later : summed Own (Later (drop one.end l)) ≡ nothing → ItemGraded m l None
+      broken_later e = sym (whole nothing (pair_broken_later (any marked) Own Later ((given (f / 16 % 2)).parse (drop 9 l)) one.rejected (drop one.end l) (sym first.says) e))
 
-      pub count_cut : length l - next < count_size m → ItemGraded m l NoItem
+      pub count_cut : length l - one.end < count_size m → ItemGraded m l None
       count_cut h = broken_later (cut-there)
         where
-          cut-there : summed Own (Later (drop next l)) ≡ nothing
-          cut-there = unfold pair in rw (number_cut l next (count_size m) (next + count_size m) refl first.lies (omega (arith, h, first.lies)))
+          cut-there : summed Own (Later (drop one.end l)) ≡ nothing
+          cut-there = unfold pair in rw (number_cut l one.end (count_size m) (one.end + count_size m) refl first.lies (omega (arith, h, first.lies)))
 
-      module _ (fits : count_size m ≤ length l - next) where
+      module _ (fits : count_size m ≤ length l - one.end) where
         own : (x : Found Extensions) (n : ℕ) → summed Own (after x (λ es r. found (n, es) r)) ≡ summed (any marked) x
         own nothing n = refl
         own (found es r) n = refl
 
-        counted : summed Own (Later (drop next l)) ≡ summed (any marked) ((given (f / 64 % 2)).parse (drop (next + count_size m) l))
+        counted : summed Own (Later (drop one.end l)) ≡ summed (any marked) ((given (f / 64 % 2)).parse (drop (one.end + count_size m) l))
         unfolding pair
         counted =
-            let inside : next + count_size m ≤ length l = omega (arith, fits, first.lies) in
-            rw (number-found l next (count_size m) (next + count_size m) refl inside) (own ((given (f / 64 % 2)).parse (drop (next + count_size m) l)) _)
+            let inside : one.end + count_size m ≤ length l = omega (arith, fits, first.lies) in
+            rw (number-found l one.end (count_size m) (one.end + count_size m) refl inside) (own ((given (f / 64 % 2)).parse (drop (one.end + count_size m) l)) _)
 
-        pub second_none : GivenAt l (next + count_size m) (f / 64 % 2) NoRun → ItemGraded m l NoItem
+        pub second_none : GivenAt l (one.end + count_size m) (f / 64 % 2) None → ItemGraded m l None
         second_none read = broken_later (counted ∙ sym read.says)
 
-        module _ (end : ℕ) (d : Bool) (second : GivenAt l (next + count_size m) (f / 64 % 2) (Upto end d)) where
-          found_both : summed Marks Two ≡ found (g || d) (drop end l)
+        module _ (two : Run) (second : GivenAt l (one.end + count_size m) (f / 64 % 2) (Some two)) where
+          found_both : summed Marks Two ≡ found (one.rejected || two.rejected) (drop two.end l)
           found_both =
-              pair-summed (any marked) Own Later ((given (f / 16 % 2)).parse (drop 9 l)) g d (drop next l) (drop end l) (sym first.says) (counted ∙ sym second.says)
+              pair-summed (any marked) Own Later ((given (f / 16 % 2)).parse (drop 9 l)) one.rejected two.rejected (drop one.end l) (drop two.end l) (sym first.says) (counted ∙ sym second.says)
 
-          pub item_fine : end ≡ length l → (n : ℕ) → n ≡ be (gets l 1 8) / 16 → ItemGraded m l (Fine (g || d) n)
+          pub item_fine : two.end ≡ length l → (n : ℕ) → n ≡ be (gets l 1 8) / 16 → ItemGraded m l (Some (record { rejected = one.rejected || two.rejected; identity = n }))
           item_fine e n here =
-              let all : length l ≤ end = omega arith in
-              rw here (sym (whole (found (g || d) []) (found_both ∙ ap (found (g || d)) (drop_of_length-le l all))))
+              let all : length l ≤ two.end = omega arith in
+              rw here (sym (whole (found (one.rejected || two.rejected) []) (found_both ∙ ap (found (one.rejected || two.rejected)) (drop_of_length-le l all))))
 
-          pub item-behind : (end ≡ length l → ⊥) → ItemGraded m l NoItem
+          pub item-behind : (two.end ≡ length l → ⊥) → ItemGraded m l None
           item-behind other =
-              let more : end < length l = omega (arith, other, second.lies) in
-              sym (whole (found (g || d) (drop end l)) found_both ∙ ap (λ (r : List ℕ). with_number (found (g || d) r)) (drop-cons l end 0 more))
+              let more : two.end < length l = omega (arith, other, second.lies) in
+              sym (whole (found (one.rejected || two.rejected) (drop two.end l)) found_both ∙ ap (λ (r : List ℕ). with_number (found (one.rejected || two.rejected) r)) (drop-cons l two.end 0 more))

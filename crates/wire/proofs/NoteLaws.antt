@@ -1,4 +1,5 @@
 -- The five bytes of a notification at an index: the definition cuts them from the front, field by field; code divides the one number that they say.
+use Rattle.std.specs.Prelude.{Some, None}
 use mathlib.Core.Path.{◌≡◌, refl, sym, ap, ◌∙◌}
 use mathlib.Core.Bool.{true, false}
 use mathlib.Core.List.{List, [], ◌∷◌}
@@ -15,7 +16,7 @@ use Rattle.formats.proofs.ReadLaws.{bits-cut, bits-set, bits-found}
 use Rattle.formats.proofs.SummaryLaws.{nothing-found, found-value}
 use Rattle.wire.specs.MessageTree.{note_fields}
 use Rattle.wire.specs.Readers.{NoteAt}
-use Rattle.wire.specs.declared.Note.TheVariants.{Fields, NoNote}
+use Rattle.wire.specs.declared.Note.{Note}
 
 -- ---- the number
 
@@ -61,15 +62,15 @@ present_bit (found n r) p identifier serial rest e =
 -- ---- at an index
 
 module _ (l : List ℕ) (at : ℕ) where
-  absent : (bits 5 note_fields).parse (drop at l) ≡ nothing → NoteAt l at NoNote
+  absent : (bits 5 note_fields).parse (drop at l) ≡ nothing → NoteAt l at None
   absent e = record { says = sym e; lies = tt }
 
-  pub note-cut : at ≤ length l → length l - at < 5 → NoteAt l at NoNote
+  pub note-cut : at ≤ length l → length l - at < 5 → NoteAt l at None
   note-cut k h = absent (bits-cut l at 5 (at + 5) refl note_fields k (omega arith))
 
-  pub note_present : (p identifier serial end : ℕ) → NoteAt l at (Fields p identifier serial end) → p < 2
+  pub note_present : (note : Note) → NoteAt l at (Some note) → note.present < 2
   unfolding bits as_if
-  note_present p identifier serial end read = present_bit ((only (padded note_fields) (number 5)).parse (drop at l)) p identifier serial (drop end l) read.says
+  note_present note read = present_bit ((only (padded note_fields) (number 5)).parse (drop at l)) note.present note.identifier note.serial (drop note.end l) read.says
 
   module _ (front middle back : ℕ) (long : at + 5 ≤ length l) (f : front ≡ be (gets l at 1)) (m : middle ≡ be (gets l (at + 1) 2)) (b : back ≡ be (gets l (at + 3) 2)) where
     said : ℕ
@@ -82,15 +83,15 @@ module _ (l : List ℕ) (at : ℕ) where
         let all : be (gets l at 1) * 4294967296 + be (gets l (at + 1) 4) ≡ be (gets l at 5) = be-run 1 4 l at (at + 1) refl in
         omega arith
 
-    pub note-extended : top ≤ front * 4294967296 + middle * 65536 + back → NoteAt l at NoNote
+    pub note-extended : top ≤ front * 4294967296 + middle * 65536 + back → NoteAt l at None
     unfolding said
     note-extended h = absent (bits-set l at 5 (at + 5) refl note_fields said long here (extended said h))
 
-    pub note-padding : front * 4294967296 + middle * 65536 + back < top → ((front * 4294967296 + middle * 65536 + back) % 64 ≡ 0 → ⊥) → NoteAt l at NoNote
+    pub note-padding : front * 4294967296 + middle * 65536 + back < top → ((front * 4294967296 + middle * 65536 + back) % 64 ≡ 0 → ⊥) → NoteAt l at None
     unfolding said
     note-padding h other = absent (bits-set l at 5 (at + 5) refl note_fields said long here (set-behind said h other))
 
-    pub note-there : (let n = front * 4294967296 + middle * 65536 + back in n < top → n % 64 ≡ 0 → NoteAt l at (Fields (n / 274877906944) (n / 4194304 % 65536) (n / 64 % 65536) (at + 5)))
+    pub note-there : (let n = front * 4294967296 + middle * 65536 + back in n < top → n % 64 ≡ 0 → NoteAt l at (Some (record { present = n / 274877906944; identifier = n / 4194304 % 65536; serial = n / 64 % 65536; end = at + 5 })))
     unfolding said
     note-there h e =
         record {

@@ -1,4 +1,5 @@
 -- An item as most are: bytes whose tests say that it is an element with an item's id, contents of an item's fixed size and no extensions.
+use Rattle.std.specs.Prelude.{Some}
 use mathlib.Core.Path.{◌≡◌, refl, sym, ap, ◌∙◌}
 use mathlib.Core.Bool.{Bool, true, false, ◌&&◌}
 use mathlib.Core.List.{List}
@@ -18,7 +19,6 @@ use Rattle.wire.specs.Messages.{item_id, count_size}
 use Rattle.wire.specs.Readers.{ItemGraded, plain_size, plain_head, PlainItem}
 use Rattle.wire.specs.declared.Message.{Message}
 use Rattle.wire.specs.declared.Message.TheVariants.{CancelRequest, CancelResponse, WriteReplaceResponse}
-use Rattle.wire.specs.declared.Grade.TheVariants.{Fine}
 use Rattle.wire.proofs.ItemLaws.{item_fine}
 
 -- a count has two bytes at most
@@ -54,13 +54,13 @@ module _ (m : Message) (l : List ℕ) (at : ℕ) (bytes : Bytes l) (long : at + 
     held_at : (i w j : ℕ) → i + w ≤ plain_size m → at + 4 + i ≡ j → be (gets l j w) ≡ be (gets held i w)
     held_at i w j h e = ap be (sym (ap (λ (s : List ℕ). gets s i w) held-run ∙ gets-gets w (plain_size m) l (at + 4) i h ∙ ap (λ (k : ℕ). gets l k w) e))
 
-    plain-graded : ItemGraded m held (Fine false (be (gets l (at + 5) 8) / 16))
+    plain-graded : ItemGraded m held (Some (record { rejected = false; identity = be (gets l (at + 5) 8) / 16 }))
     plain-graded =
         let nine : 9 ≤ length held = omega (arith, held-long) in
         let counted : 9 + count_size m ≤ length held = omega (arith, held-long) in
         let fits : count_size m ≤ length held - 9 = omega (arith, held-long) in
         item_fine m held 0 last nine (sym none ∙ first ∙ held_at 0 1 (at + 4) (omega arith) (omega arith)) (eighth ∙ held_at 8 1 (at + 12) (omega arith) (omega arith))
-        (rw (eq-eqb (last % 16) 0 padded)) 9 false (given-none held 9 nine 0 refl) fits (9 + count_size m) false (given-none held (9 + count_size m) counted 0 refl) (sym held-long)
+        (rw (eq-eqb (last % 16) 0 padded)) (record { end = 9; rejected = false }) (given-none held 9 nine 0 refl) fits (record { end = 9 + count_size m; rejected = false }) (given-none held (9 + count_size m) counted 0 refl) (sym held-long)
         (be (gets l (at + 5) 8) / 16) (ap (λ (n : ℕ). n / 16) (held_at 1 8 (at + 5) (omega arith) (omega arith)))
 
   -- ---- and its tests

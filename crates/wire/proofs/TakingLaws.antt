@@ -9,36 +9,34 @@ use Rattle.rules.specs.Refusals.{number_of, Verdict, Writing}
 use Rattle.rules.specs.Applied.{Filled, fill, filled_by}
 use Rattle.rules.proofs.OutcomeLaws.{number_positive}
 use Rattle.rules.proofs.OnceLaws.{number_injective}
-use Rattle.wire.specs.MessageOutcome.{MessageOutcome, transaction_by, with_transaction, taken_by}
-use Rattle.wire.specs.declared.Taking.{Taking}
-use Rattle.wire.specs.declared.Taking.TheVariants.{Taken, Untaken}
+use Rattle.wire.specs.MessageOutcome.{MessageOutcome, transaction_by, with_transaction, Taking, taken_by}
 
 -- ---- one outcome: number, transaction identifier and length settle the case
 
 pub taking_settled : (x y : Taking) (a b : List ℕ) → taken_by x a ≡ taken_by y b → x ≡ y
-taking_settled (Taken t m) (Taken u n) a b e =
-    let transaction : t ≡ u = ap (λ (o : MessageOutcome). o.transaction) e in
-    let size : m ≡ n = ap (λ (o : MessageOutcome). o.length) e in
+taking_settled (Ok r) (Ok s) a b e =
+    let transaction : r.transaction ≡ s.transaction = ap (λ (o : MessageOutcome). o.transaction) e in
+    let size : r.length ≡ s.length = ap (λ (o : MessageOutcome). o.length) e in
     rw (transaction, size)
-taking_settled (Taken t m) (Untaken y) a b e =
+taking_settled (Ok r) (Err y) a b e =
     let z = ap (λ (o : MessageOutcome). o.number) e in
     absurd (omega (arith, number_positive y))
-taking_settled (Untaken x) (Taken u n) a b e =
+taking_settled (Err x) (Ok s) a b e =
     let z = ap (λ (o : MessageOutcome). o.number) e in
     absurd (omega (arith, number_positive x))
-taking_settled (Untaken x) (Untaken y) a b e = ap Untaken (number_injective x y (ap (λ (o : MessageOutcome). o.number) e))
+taking_settled (Err x) (Err y) a b e = ap Err (number_injective x y (ap (λ (o : MessageOutcome). o.number) e))
 
 pub left_settled : (x y : Taking) (a b : List ℕ) → taken_by x a ≡ taken_by y b → a ≡ b
-left_settled (Taken t m) (Taken u n) a b e = ap (λ (o : MessageOutcome). o.buffer) e
-left_settled (Taken t m) (Untaken y) a b e = ap (λ (o : MessageOutcome). o.buffer) e
-left_settled (Untaken x) (Taken u n) a b e = ap (λ (o : MessageOutcome). o.buffer) e
-left_settled (Untaken x) (Untaken y) a b e = ap (λ (o : MessageOutcome). o.buffer) e
+left_settled (Ok r) (Ok s) a b e = ap (λ (o : MessageOutcome). o.buffer) e
+left_settled (Ok r) (Err y) a b e = ap (λ (o : MessageOutcome). o.buffer) e
+left_settled (Err x) (Ok s) a b e = ap (λ (o : MessageOutcome). o.buffer) e
+left_settled (Err x) (Err y) a b e = ap (λ (o : MessageOutcome). o.buffer) e
 
 -- ---- by what was written or was not
 
 abbrev pub taking : Writing → ℕ → Taking
-taking (Ok n) t = Taken t n
-taking (Err x) t = Untaken x
+taking (Ok n) t = Ok (record { transaction = t; length = n })
+taking (Err x) t = Err x
 
 pub taking_outcome : (v : Verdict) (bs before : List ℕ) (t : ℕ) (w : Writing) (buffer : List ℕ) → filled_by w buffer ≡ fill v bs before
     → taken_by (taking w t) buffer ≡ with_transaction (fill v bs before) (transaction_by v t)

@@ -1,5 +1,5 @@
 -- What readers of an element's contents answer: all of the bytes that are lent are read, and what the rules ask for is kept.
-use Rattle.std.specs.Prelude.{◌≡◌, Bool, true, false, cond, eqb, ltb, List, [], ◌∷◌, map, ℕ, ◌+◌, ◌-◌, ◌*◌, ◌/◌, ◌%◌, ◌<◌, ◌≤◌, length, take, drop}
+use Rattle.std.specs.Prelude.{◌≡◌, Bool, true, false, List, [], ◌∷◌, map, ℕ, ◌+◌, ◌-◌, ◌*◌, ◌/◌, ◌<◌, ◌≤◌, length, take, drop, Option, Some, None}
 use Rattle.octets.specs.Runs.{gets}
 use Rattle.octets.specs.Numbers.{be}
 use Rattle.rules.specs.Lists.{any, ascending}
@@ -8,51 +8,48 @@ use Rattle.rules.specs.Identity.{identity_of}
 use Rattle.formats.specs.Format.{Found, nothing, found, all_of, Format}
 use Rattle.formats.specs.Summary.{summed}
 use Rattle.formats.specs.Bits.{bits}
-use Rattle.aper.specs.Elements.{Element, marked}
+use Rattle.aper.specs.Elements.{Element, from_one, marked}
 use Rattle.aper.specs.Readers.{ElementAt}
-use Rattle.aper.specs.declared.Step.TheVariants.{One}
 use Rattle.wire.specs.Messages.{the_cells, item_id, count_size}
-use Rattle.wire.specs.Cells.{Item, item, Entry, listed, foreign, entry_element}
+use Rattle.wire.specs.Cells.{Item, item, Entry, listed, foreign, entry_element, most_listed}
 use Rattle.wire.specs.MessageTree.{note_fields, Contents, contents_by, transaction, requested, cells, cancel_all, notification, other}
 use Rattle.wire.specs.MessageRefusals.{rejecting_item, rejects_entry, foreign_entry}
 use Rattle.wire.specs.declared.Message.{Message}
-use Rattle.wire.specs.declared.Grade.{Grade}
-use Rattle.wire.specs.declared.Grade.TheVariants.{Fine, NoItem}
-use Rattle.wire.specs.declared.Listed.{Listed}
-use Rattle.wire.specs.declared.Listed.TheVariants.{Upto, NoEntry}
+use Rattle.wire.specs.declared.list.Grade.{Grade}
+use Rattle.wire.specs.declared.list.Listed.{Listed}
 use Rattle.wire.specs.declared.Note.{Note}
-use Rattle.wire.specs.declared.Note.TheVariants.{Fields, NoNote}
+use Rattle.wire.specs.declared.Marks.{Marks}
 use Rattle.wire.specs.declared.Heard.{Heard}
-use Rattle.wire.specs.declared.Heard.TheVariants.{Transaction, Requested, Cells, CancelAll, Notification, Unknown, Bad}
+use Rattle.wire.specs.declared.Heard.TheVariants.{Transaction, Requested, Cells, CancelAll, Notification, Unknown}
 
 -- the five bytes of a notification at an index
-abbrev pub note_by : List ℕ → Note → Found (List ℕ)
-note_by l (Fields p identifier serial end) = found (p ∷ identifier ∷ serial ∷ []) (drop end l)
-note_by l NoNote = nothing
+abbrev pub note_by : List ℕ → Option Note → Found (List ℕ)
+note_by l (Some r) = found (r.present ∷ r.identifier ∷ r.serial ∷ []) (drop r.end l)
+note_by l None = nothing
 
-abbrev pub NoteLies : List ℕ → Note → Type 0
-NoteLies l (Fields p identifier serial end) = end ≤ length l
-NoteLies l NoNote = Unit {0}
+abbrev pub NoteLies : List ℕ → Option Note → Type 0
+NoteLies l (Some r) = r.end ≤ length l
+NoteLies l None = Unit {0}
 
-pub record NoteAt (l : List ℕ) (at : ℕ) (r : Note) : Type 0 where
+pub record NoteAt (l : List ℕ) (at : ℕ) (r : Option Note) : Type 0 where
   pub says : note_by l r ≡ (bits 5 note_fields).parse (drop at l)
   pub lies : NoteLies l r
 
 -- bytes that are an item and nothing else: whether an extension in it is marked reject, and its cell's number
-abbrev pub grade_by : Grade → Found (Bool × ℕ)
-grade_by (Fine b n) = found (b, n) []
-grade_by NoItem = nothing
+abbrev pub grade_by : Option Grade → Found (Bool × ℕ)
+grade_by (Some r) = found (r.rejected, r.identity) []
+grade_by None = nothing
 
 abbrev pub graded : Item → Bool × ℕ
 graded i = (rejecting_item i, identity_of i.plmn i.cell)
 
-abbrev pub ItemGraded : Message → List ℕ → Grade → Type 0
+abbrev pub ItemGraded : Message → List ℕ → Option Grade → Type 0
 ItemGraded m l r = grade_by r ≡ all_of (summed graded ((item m).parse l)) []
 
 -- and that number is a cell's
-abbrev pub GradeLies : Grade → Type 0
-GradeLies (Fine b n) = n < cell_end
-GradeLies NoItem = Unit {0}
+abbrev pub GradeLies : Option Grade → Type 0
+GradeLies (Some r) = r.identity < cell_end
+GradeLies None = Unit {0}
 
 -- the bytes of an item without extensions
 abbrev pub plain_size : Message → ℕ
@@ -61,8 +58,8 @@ plain_size m = 9 + count_size m
 -- an item of the list without extensions, behind its id, criticality and length; of anything else nothing is said
 pub record PlainAt (m : Message) (l : List ℕ) (at : ℕ) : Type 0 where
   pub criticality : ℕ
-  pub read : ElementAt l at (One (item_id m) criticality (at + 4) (at + (4 + plain_size m)))
-  pub graded : ItemGraded m (take (at + (4 + plain_size m) - (at + 4)) (drop (at + 4) l)) (Fine false (be (gets l (at + 5) 8) / 16))
+  pub read : ElementAt l at (Some (record { id = item_id m; criticality = criticality; start = at + 4; end = at + (4 + plain_size m) }))
+  pub graded : ItemGraded m (take (at + (4 + plain_size m) - (at + 4)) (drop (at + 4) l)) (Some (record { rejected = false; identity = be (gets l (at + 5) 8) / 16 }))
 
 -- its id and its length, without its criticality
 abbrev pub plain_head : Message → ℕ
@@ -71,6 +68,19 @@ plain_head m = item_id m * 65536 + plain_size m
 abbrev pub PlainItem : Message → List ℕ → ℕ → Bool → Type 0
 PlainItem m l at true = PlainAt m l at
 PlainItem m l at false = Unit {0}
+
+-- how many entries a list has, by the two bytes in front of them
+abbrev pub count_by : List ℕ → Option ℕ → Found ℕ
+count_by l (Some n) = found n (drop 2 l)
+count_by l None = nothing
+
+abbrev pub CountLies : List ℕ → Option ℕ → Type 0
+CountLies l (Some n) = 2 ≤ length l
+CountLies l None = Unit {0}
+
+pub record EntriesCounted (l : List ℕ) (r : Option ℕ) : Type 0 where
+  pub says : count_by l r ≡ (from_one most_listed).parse l
+  pub lies : CountLies l r
 
 -- the number of an entry's cell, 0 where it is not a cell's
 abbrev pub number_of_entry : Entry → ℕ
@@ -84,15 +94,15 @@ entry_numbers es = map (λ e. number_of_entry e.contents) es
 abbrev pub marks_of : Element Entry → Bool × (Bool × ℕ)
 marks_of e = (rejects_entry e, (foreign_entry e, number_of_entry e.contents))
 
-abbrev pub entry_by : List ℕ → Listed → Found (Bool × (Bool × ℕ))
-entry_by l (Upto end rejects alien identity) = found (rejects, (alien, identity)) (drop end l)
-entry_by l NoEntry = nothing
+abbrev pub entry_by : List ℕ → Option Listed → Found (Bool × (Bool × ℕ))
+entry_by l (Some r) = found (r.rejected, (r.foreign, r.identity)) (drop r.end l)
+entry_by l None = nothing
 
-abbrev pub EntryLies : List ℕ → Listed → Type 0
-EntryLies l (Upto end rejects alien identity) = (end ≤ length l) × (identity < cell_end)
-EntryLies l NoEntry = Unit {0}
+abbrev pub EntryLies : List ℕ → Option Listed → Type 0
+EntryLies l (Some r) = (r.end ≤ length l) × (r.identity < cell_end)
+EntryLies l None = Unit {0}
 
-pub record EntryAt (m : Message) (l : List ℕ) (at : ℕ) (r : Listed) : Type 0 where
+pub record EntryAt (m : Message) (l : List ℕ) (at : ℕ) (r : Option Listed) : Type 0 where
   pub says : entry_by l r ≡ summed marks_of ((entry_element m).parse (drop at l))
   pub lies : EntryLies l r
 
@@ -101,31 +111,39 @@ pub record EntryAt (m : Message) (l : List ℕ) (at : ℕ) (r : Listed) : Type 0
 abbrev pub kept : Contents → Heard
 kept (transaction t) = Transaction t
 kept (requested n) = Requested n
-kept (cells es) = Cells (any rejects_entry es) (any foreign_entry es) (ascending (entry_numbers es))
+kept (cells es) = Cells (record { rejected = any rejects_entry es; foreign = any foreign_entry es; ascends = ascending (entry_numbers es) })
 kept cancel_all = CancelAll
-kept (notification n) = Notification (any marked n.extensions) n.identifier n.serial
+kept (notification n) = Notification (record { rejected = any marked n.extensions; identifier = n.identifier; serial = n.serial })
 kept (other s) = Unknown
 
--- what a list tells as one number: 8 where it is none, else 4 for a reject, 2 for an item that is not a cell's, 1 for cells that ascend
-abbrev pub list_heard : ℕ → Heard
-list_heard n = cond (ltb n 8) (Cells (eqb (n / 4 % 2) 1) (eqb (n / 2 % 2) 1) (eqb (n % 2) 1)) Bad
+-- what a list tells, and what a transaction identifier tells, as elements
+abbrev pub list_heard : Option Marks → Option Heard
+list_heard (Some r) = Some (Cells r)
+list_heard None = None
 
--- what a transaction identifier tells as one number: 256 where it is none
-abbrev pub transaction_heard : ℕ → Heard
-transaction_heard n = cond (ltb n 256) (Transaction n) Bad
+abbrev pub transaction_heard : Option ℕ → Option Heard
+transaction_heard (Some t) = Some (Transaction t)
+transaction_heard None = None
 
-abbrev pub heard_by : Heard → Found Heard
-heard_by (Transaction t) = found (Transaction t) []
-heard_by (Requested n) = found (Requested n) []
-heard_by (Cells r f a) = found (Cells r f a) []
-heard_by CancelAll = found CancelAll []
-heard_by (Notification r i s) = found (Notification r i s) []
-heard_by Unknown = found Unknown []
-heard_by Bad = nothing
+abbrev pub heard_by : Option Heard → Found Heard
+heard_by (Some h) = found h []
+heard_by None = nothing
 
-abbrev pub Tells : Format Contents → List ℕ → Heard → Type 0
+abbrev pub Tells : Format Contents → List ℕ → Option Heard → Type 0
 Tells f l r = heard_by r ≡ all_of (summed kept (f.parse l)) []
 
--- a list of items without extensions alone: 1 where its cells ascend, 0 where they do not; of any other list nothing is said
-abbrev pub PlainList : Message → List ℕ → ℕ → Type 0
-PlainList m l r = r < 2 → Tells (contents_by m the_cells) l (Cells false false (eqb r 1))
+-- the same of an entry where it is to be an item without extensions; of any other nothing is said
+abbrev pub ListedAt : Bool → Message → List ℕ → ℕ → Option Listed → Type 0
+ListedAt false m l at r = EntryAt m l at r
+ListedAt true m l at (Some r) = EntryAt m l at (Some r) × (r.rejected ≡ false) × (r.foreign ≡ false)
+ListedAt true m l at None = Unit {0}
+
+-- a list of items without extensions alone; of any other list nothing is said
+abbrev pub PlainList : Message → List ℕ → Option Marks → Type 0
+PlainList m l (Some r) = Tells (contents_by m the_cells) l (Some (Cells r)) × (r.rejected ≡ false) × (r.foreign ≡ false)
+PlainList m l None = Unit {0}
+
+-- a list where its items are to have no extensions, and any list
+abbrev pub WalkedBy : Bool → Message → List ℕ → Option Marks → Type 0
+WalkedBy true m l r = PlainList m l r
+WalkedBy false m l r = Tells (contents_by m the_cells) l (list_heard r)

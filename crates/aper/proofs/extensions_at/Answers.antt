@@ -13,10 +13,10 @@ pub returns-then-s-at-lt2 : goal.returns-then-s-at-lt2
 returns-then-s-at-lt2 c = run_none _ _ (run-cut _ _ c.requires c.if-s-at-lt2.true)
 
 pub returns-then-last-ge-MOST_EXTENSIONS : goal.returns-then-last-ge-MOST_EXTENSIONS
-returns-then-last-ge-MOST_EXTENSIONS c = run_none _ _ (run-many _ _ _ (omega arith) c.get16-last.ensures c.if-last-ge-MOST_EXTENSIONS.true)
+returns-then-last-ge-MOST_EXTENSIONS c = run_none _ _ (run-many _ _ _ (omega arith) c.get-last.ensures c.if-last-ge-MOST_EXTENSIONS.true)
 
 pub loop-init : goal.loop-init
-loop-init c = counted_starts (run-start _ _ _ (omega arith) c.get16-last.ensures c.if-last-ge-MOST_EXTENSIONS.false)
+loop-init c = counted_starts (run-start _ _ _ (omega arith) c.get-last.ensures c.if-last-ge-MOST_EXTENSIONS.false)
 
 pub returns-in_err-extension : goal.returns-in_err-extension
 returns-in_err-extension c =

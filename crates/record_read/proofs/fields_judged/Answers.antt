@@ -13,8 +13,8 @@ returns c =
     let r = c.args.req.now in
     let n = c.args.n in
     let longest = c.longest_asked in
-    let fields = c.request-fields.ensures in
+    let fields = c.request.ensures in
     let text = c.no_text.ensures ∙ sym (ap (λ (q : Request). zeros (identifier_to_sib q)) fields) in
     let omitted = c.cancel_zeros.ensures ∙ sym (ap (λ (q : Request). zeros (cancel_zeros q)) fields) in
     rw (← fields, ← longest.ensures)
-    (c.judged.ensures ∙ told-verdict longest.result c.request-fields.result (read-items r n) text omitted (sym (read_length r n)) c.any64-any.ensures)
+    (c.judged.ensures ∙ told-verdict longest.result c.request.result (read-items r n) text omitted (sym (read_length r n)) c.any64-any.ensures)

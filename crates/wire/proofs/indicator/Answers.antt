@@ -5,8 +5,8 @@ use Rattle.wire.proofs.indicator.Goals as goal
 pub returns-then-part-ne1 : goal.returns-then-part-ne1
 returns-then-part-ne1 c = indicator-length _ c.if-part-ne1.true
 
-pub returns-then-get8-ne0 : goal.returns-then-get8-ne0
-returns-then-get8-ne0 c = indicator-set _ _ c.if-part-ne1.false c.get8.ensures c.if-get8-ne0.true
+pub returns-then-get-ne0 : goal.returns-then-get-ne0
+returns-then-get-ne0 c = indicator-set _ _ c.if-part-ne1.false c.get.ensures c.if-get-ne0.true
 
 pub returns : goal.returns
-returns c = indicator-there _ _ c.if-part-ne1.false c.get8.ensures c.if-get8-ne0.false
+returns c = indicator-there _ _ c.if-part-ne1.false c.get.ensures c.if-get-ne0.false

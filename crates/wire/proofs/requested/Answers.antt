@@ -6,4 +6,4 @@ pub returns-then-part-ne2 : goal.returns-then-part-ne2
 returns-then-part-ne2 c = requested-length _ c.if-part-ne2.true
 
 pub returns : goal.returns
-returns c = requested-there _ _ c.if-part-ne2.false c.get16.ensures
+returns c = requested-there _ _ c.if-part-ne2.false c.get.ensures

@@ -1,24 +1,24 @@
 -- `keyed` returns the keys turned, which are the keys again where they are compared (`keys-back`).
-use mathlib.Core.Path.{◌≡◌}
-use mathlib.Core.List.{[], ◌∷◌}
+use mathlib.Core.Path.{◌≡◌, ap, ◌∙◌}
+use mathlib.Core.List.{List}
+use Prim.Native.Nat.{ℕ}
 use native.Mathlib.Omega.{arith}
+use borrow.Author.Rules.{rules}
+use lib.ListN.{length, take}
+use Rattle.rules.specs.Lists.{one_of}
 use Rattle.engine.specs.Reach.{turned_keys}
-use Rattle.engine.specs.declared.reach.Naming.{Naming}
-use Rattle.engine.proofs.Searching.{keys-back}
+use Rattle.engine.proofs.Searching.{four-read, keys-back}
+use Rattle.engine.proofs.reach.keyed.Goals.{After-turned64-4}
 use Rattle.engine.proofs.reach.keyed.Goals as goal
 
-pub returns : goal.returns
+pub returns-clause-turned : goal.returns-clause-turned
 unfolding turned_keys
-returns c =
-    let p = c.args in
-    let s : Naming =
-    record {
-      keys = p.keys;
-      first = c.turned64.result;
-      second = c.turned64-2.result;
-      third = c.turned64-3.result;
-      fourth = c.turned64-4.result;
-    } in
-    let turned : s ≡ turned_keys p.keys (p.first ∷ p.second ∷ p.third ∷ p.fourth ∷ []) =
-    rw (c.turned64.ensures, c.turned64-2.ensures, c.turned64-3.ensures, c.turned64-4.ensures) in
-    (turned, keys-back s p.keys p.first p.second p.third p.fourth turned (omega arith) (omega arith) (omega arith) (omega arith))
+returns-clause-turned c = rw (c.turned64.ensures, c.turned64-2.ensures, c.turned64-3.ensures, c.turned64-4.ensures)
+
+pub returns-clause-meant : goal.returns-clause-meant
+unfolding turned_keys
+returns-clause-meant c =
+    let long : length c.args.all ≡ 4 = search rules in
+    λ x.
+    keys-back _ c.args.keys _ _ _ _ (rw (c.turned64.ensures, c.turned64-2.ensures, c.turned64-3.ensures, c.turned64-4.ensures)) (omega arith) (omega arith) (omega arith) (omega arith) x
+    ∙ ap (λ (l : List ℕ). one_of x (take c.args.keys l)) (four-read c.args.all long)

@@ -5,28 +5,24 @@ use Rattle.wire.proofs.EntryLaws.{identity-small}
 use Rattle.wire.proofs.list.item_grade.Goals as goal
 
 pub returns-then-s-lt-IDENTITY_END : goal.returns-then-s-lt-IDENTITY_END
-returns-then-s-lt-IDENTITY_END c = (item-cut _ _ (λ i. (c.shared_slice_known-1.given i).fits) c.if-s-lt-IDENTITY_END.true, tt)
+returns-then-s-lt-IDENTITY_END c = (item-cut _ _ (λ i. (c.type_inv.s i).fits) c.if-s-lt-IDENTITY_END.true, tt)
 
-pub overflow_sub-s : goal.overflow_sub-s
-overflow_sub-s c = let first = rw c.in-Upto.is at c.given_at.ensures in first.lies
+pub returns-then-not-padded : goal.returns-then-not-padded
+returns-then-not-padded c = (fixed_bad _ _ _ _ c.if-s-lt-IDENTITY_END.false c.get-flags.ensures c.get-last.ensures c.if-not-padded.true, tt)
 
-pub returns-then-s-next : goal.returns-then-s-next
-returns-then-s-next c = (count_cut _ _ _ _ c.if-s-lt-IDENTITY_END.false c.get8-flags.ensures c.get8-last.ensures c.if-flags-last.true _ _ (rw c.in-Upto.is at c.given_at.ensures) (omega (arith, c.count_bytes.ensures, c.if-s-next.true)), tt)
+pub returns-in_err-first : goal.returns-in_err-first
+returns-in_err-first c = rw c.from_residual.ensures (first-none _ _ _ _ c.if-s-lt-IDENTITY_END.false c.get-flags.ensures c.get-last.ensures c.if-not-padded.false c.in_err-first.ensures, tt)
 
-pub given_at-requires-in-Upto : goal.given_at-requires-in-Upto
-given_at-requires-in-Upto c = let first = rw c.in-Upto.is at c.given_at.ensures in record { at_in_bounds = omega (arith, first.lies, c.if-s-next.false, c.count_bytes.ensures, c.count_bytes-in-Upto.ensures); present_bound = omega arith }
+pub returns-then-s-first : goal.returns-then-s-first
+returns-then-s-first c = (count_cut _ _ _ _ c.if-s-lt-IDENTITY_END.false c.get-flags.ensures c.get-last.ensures c.if-not-padded.false _ c.in_ok-first.ensures (omega (arith, c.count_size.ensures, c.if-s-first.true)), tt)
 
-pub returns-then-end-s : goal.returns-then-end-s
-returns-then-end-s c = (item_fine _ _ _ _ c.if-s-lt-IDENTITY_END.false c.get8-flags.ensures c.get8-last.ensures c.if-flags-last.true _ _ (rw c.in-Upto.is at c.given_at.ensures) (omega (arith, c.if-s-next.false, c.count_bytes.ensures)) _ _ (rw (c.in-Upto-given_at.is, c.count_bytes-in-Upto.ensures) at c.given_at-in-Upto.ensures) c.if-end-s.true _ c.identity_at.ensures, identity-small _ _ (λ i. (c.shared_slice_known-1.given i).fits) c.identity_at.ensures)
+pub returns-in_err-second : goal.returns-in_err-second
+returns-in_err-second c =
+    rw c.from_residual-in_err-second.ensures (second_none _ _ _ _ c.if-s-lt-IDENTITY_END.false c.get-flags.ensures c.get-last.ensures c.if-not-padded.false _ c.in_ok-first.ensures (omega (arith, c.if-s-first.false, c.count_size.ensures)) (rw c.count_size-2.ensures at c.in_err-second.ensures), tt)
 
-pub returns-in-NoRun : goal.returns-in-NoRun
-returns-in-NoRun c = (first-none _ _ _ _ c.if-s-lt-IDENTITY_END.false c.get8-flags.ensures c.get8-last.ensures c.if-flags-last.true (rw c.in-NoRun.is at c.given_at.ensures), tt)
+pub returns-then-second-s : goal.returns-then-second-s
+returns-then-second-s c = (item-behind _ _ _ _ c.if-s-lt-IDENTITY_END.false c.get-flags.ensures c.get-last.ensures c.if-not-padded.false _ c.in_ok-first.ensures (omega (arith, c.if-s-first.false, c.count_size.ensures)) _ (rw c.count_size-2.ensures at c.in_ok-second.ensures) c.if-second-s.true, tt)
 
-pub returns-in-NoRun-given_at : goal.returns-in-NoRun-given_at
-returns-in-NoRun-given_at c = (second_none _ _ _ _ c.if-s-lt-IDENTITY_END.false c.get8-flags.ensures c.get8-last.ensures c.if-flags-last.true _ _ (rw c.in-Upto.is at c.given_at.ensures) (omega (arith, c.if-s-next.false, c.count_bytes.ensures)) (rw (c.in-NoRun-given_at.is, c.count_bytes-in-Upto.ensures) at c.given_at-in-Upto.ensures), tt)
-
-pub returns-else-end-s : goal.returns-else-end-s
-returns-else-end-s c = (item-behind _ _ _ _ c.if-s-lt-IDENTITY_END.false c.get8-flags.ensures c.get8-last.ensures c.if-flags-last.true _ _ (rw c.in-Upto.is at c.given_at.ensures) (omega (arith, c.if-s-next.false, c.count_bytes.ensures)) _ _ (rw (c.in-Upto-given_at.is, c.count_bytes-in-Upto.ensures) at c.given_at-in-Upto.ensures) c.if-end-s.false, tt)
-
-pub returns-else-flags-last : goal.returns-else-flags-last
-returns-else-flags-last c = (fixed_bad _ _ _ _ c.if-s-lt-IDENTITY_END.false c.get8-flags.ensures c.get8-last.ensures c.if-flags-last.false, tt)
+pub returns : goal.returns
+returns c =
+    (item_fine _ _ _ _ c.if-s-lt-IDENTITY_END.false c.get-flags.ensures c.get-last.ensures c.if-not-padded.false _ c.in_ok-first.ensures (omega (arith, c.if-s-first.false, c.count_size.ensures)) _ (rw c.count_size-2.ensures at c.in_ok-second.ensures) c.if-second-s.false _ c.identity_at.ensures, identity-small _ _ (λ i. (c.type_inv.s i).fits) c.identity_at.ensures)
