@@ -1,7 +1,7 @@
 -- The walk over runs of bytes, cells or heads of any version, judges as `legal_runs` says: each is legal, and none has an NR CGI below the least that may follow those before.
 -- The invariant speaks of the runs still to come; a turn peels one.
 use mathlib.Core.Path.{◌≡◌, refl, sym, subst, ◌∙◌}
-use mathlib.Core.Bool.{Bool, true, false, not, ◌&&◌, and_assoc, and-false}
+use mathlib.Core.Bool.{Bool, true, false, ◌&&◌, and-false}
 use mathlib.Core.List.{List, [], ◌∷◌, map}
 use Prim.Native.Nat.{ℕ, ◌+◌, ◌-◌, ◌*◌, ◌≤◌, ◌<◌}
 use native.Mathlib.Nat.{mul-zero, mul-suc, sub-zero}

@@ -1,9 +1,7 @@
 -- `build` leaves and answers what `built` says: 9, then 8, else the empty table, whole.
 -- Each way out is the case of the verdict that its tests lead to; few heads make every sum fit.
 use native.Mathlib.Omega.{arith}
-use Rattle.rules.specs.Refusals.{legal_heads}
 use Rattle.table_build.specs.Build.{empty_run}
-use Rattle.table_build.proofs.BuildLaws.{head-stored}
 use Rattle.table_build.proofs.BuiltLaws.{heads-few, heads_bad, buffer-short, table-built}
 use Rattle.table_build.proofs.build.Goals as goal
 
