@@ -4,6 +4,7 @@ ghost use Rattle.rules.specs.Layout.{most_cells};
 ghost use Rattle.rules.specs.Applied.{built};
 ghost use Rattle.report_lines.specs.Text.{no_text};
 ghost use Rattle.report_lines.specs.Framing.{heads_end};
+ghost use Rattle.report_lines.specs.Told.{HasRoom};
 ghost use Rattle.report_turns.specs.Report.{answer_room, table_size, heads_there};
 ghost use Rattle.report_turns.specs.Serve.{most_text};
 ghost use Rattle.report_turns.specs.Buffers.{Stepped, program_in};
@@ -42,7 +43,7 @@ fn no_cells(held: &[u8]) -> bool
 
 // There will be no table.
 fn refuse(number: u32, text: &mut Text) -> Took
-    requires { text.old.at + most_text ≤ length text.old.out.now }
+    requires { HasRoom text.old most_text }
     ensures { (p : Program) → p.cells ≡ None → Stepped (stopping (no_text number) p) p.table p.answer text.old result p.table p.answer text.new }
 {
     text.put_no(number);
@@ -55,7 +56,7 @@ fn refuse(number: u32, text: &mut Text) -> Took
 
 // Heads are missing, or there are none to come.
 fn without_heads(never: bool, text: &mut Text) -> Took
-    requires { text.old.at + most_text ≤ length text.old.out.now }
+    requires { HasRoom text.old most_text }
     ensures { (p : Program) → p.cells ≡ None → Stepped (cond never (stopping (no_text 9) p) (waiting p)) p.table p.answer text.old result p.table p.answer text.new }
 {
     if never {
@@ -72,7 +73,7 @@ fn without_heads(never: bool, text: &mut Text) -> Took
 fn build_table(heads: &[u8], cells: usize, table: &mut [u8], text: &mut Text) -> Took
     requires cells_fit { cells ≤ most_cells }
     requires room_for_table { table_size most_cells ≤ length table.old }
-    requires room_for_text { text.old.at + most_text ≤ length text.old.out.now }
+    requires room_for_text { HasRoom text.old most_text }
     ensures { (a : List ℕ) → answer_room most_cells ≤ length a → Stepped (opened cells (program_in None table.old a) (built heads.now (take (table_size cells) table.old))) table.old a text.old result table.new a text.new }
 {
     if let Err(refusal) = build(heads, &mut table[..HEADER + CELL * cells]) {
@@ -87,7 +88,7 @@ fn build_table(heads: &[u8], cells: usize, table: &mut [u8], text: &mut Text) ->
 
 pub fn open_table(held: Held, table: &mut [u8], text: &mut Text) -> Took
     requires room_for_table { table_size most_cells ≤ length table.old }
-    requires room_for_text { text.old.at + most_text ≤ length text.old.out.now }
+    requires room_for_text { HasRoom text.old most_text }
     ensures { (a : List ℕ) → answer_room most_cells ≤ length a → Stepped (opens held.entry.ended (program_in None table.old a) held.entry.bytes.now) table.old a text.old result table.new a text.new }
 {
     match cells_there(held.bytes) {

@@ -25,6 +25,18 @@ pub enum Next {
     Stop,
 }
 
+impl Next {
+    // Whoever waits for the text would wait in vain behind a read or the end.
+    fn pauses(self) -> bool
+        ensures { result ≡ Next·pauses self }
+    {
+        match self {
+            Next::Go => false,
+            Next::Wait | Next::Stop => true,
+        }
+    }
+}
+
 // Where the program stands in the buffers that it is lent: the bytes at hand in the input, the end of the text that is not yet
 // written, the cells of its table, once there is one, and what comes next, once the text is written if it has to be.
 #[derive(Clone, Copy)]
@@ -71,16 +83,8 @@ pub fn start() -> Stand
     }
 }
 
-// Whoever waits for the text would wait in vain behind a read or the end.
-fn pauses(next: Next) -> bool
-    ensures { result ≡ Next·pauses next }
-{
-    match next {
-        Next::Go => false,
-        Next::Wait | Next::Stop => true,
-    }
-}
-
+// Stays: a struct of the lent buffers is no plainer. `turn` alone would make one, and `one_turn(held, cells, &mut Lent { table, answer, text })`
+// would hand `open_table` an answer's buffer, which it may not touch.
 fn one_turn(
     held: Held,
     cells: Option<usize>,
@@ -114,7 +118,7 @@ pub fn turn(s: Stand, input: &[u8], table: &mut [u8], answer: &mut [u8], out: &m
         from: s.from + took.bytes,
         at: text.at,
         next: took.next,
-        writes: pauses(took.next) | (room < MOST_TEXT),
+        writes: took.next.pauses() | (room < MOST_TEXT),
         ..s
     }
 }

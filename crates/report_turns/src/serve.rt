@@ -1,5 +1,6 @@
 // One request of the input: applied to the table, and what is told of it added to the text.
 ghost use Rattle.std.specs.Prelude.{◌≡◌, ◌+◌, ◌≤◌, length};
+ghost use Rattle.report_lines.specs.Told.{HasRoom};
 ghost use Rattle.report_turns.specs.Report.{answer_room};
 ghost use Rattle.report_turns.specs.Serve.{most_text, Served};
 ghost use Rattle.report_turns.specs.Next.{next_behind as Next·next_behind};
@@ -22,7 +23,7 @@ fn next_behind(number: u32) -> Next
 
 pub fn serve(table: &mut [u8], req: &[u8], answer: &mut [u8], text: &mut Text) -> Next
     requires answer_bounded { length answer.old ≤ answer_room most_cells }
-    requires room_for_text { text.old.at + most_text ≤ length text.old.out.now }
+    requires room_for_text { HasRoom text.old most_text }
     ensures served { Served table.old req.now answer.old text.old table.new answer.new text.new result }
     ensures room_taken { text.new.at ≤ text.old.at + most_text }
 {

@@ -4,8 +4,9 @@ use Rattle.report_lines.specs.Text.{longest_row}
 use Rattle.report_lines.specs.Told.{Tells}
 use Rattle.report_lines.specs.declared.text.Text.{Text}
 use Rattle.report_lines.proofs.RowLaws.{rows_text}
-use Rattle.report_lines.proofs.text.Text.put_rows.Given as goal
+use Rattle.report_lines.proofs.text.Text.put_answer.Given as goal
 
+-- the lines of the rows so far
 pub record Told (before : Text) (answer : List ℕ) (now : Text) (k : ℕ) : Type 0 where
   pub tells : Tells before (rows_text k answer) now
   pub room_taken : now.at ≤ before.at + longest_row * k
