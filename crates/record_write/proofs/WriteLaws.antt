@@ -10,7 +10,7 @@ use lib.ListN.{length, drop, get_or, length-append, drop_of_length-le}
 use lib.Seq.{sets, drop-cons}
 use borrow.Author.Tests.{le-leb, lt-leb}
 use Rattle.octets.specs.Numbers.{to_be}
-use Rattle.octets.specs.Fields.{bytes_of, offset}
+use Rattle.octets.specs.Fields.{bytes_of}
 use Rattle.octets.proofs.RunsLaws.{sets-run}
 use Rattle.octets.proofs.PiecesLaws.{length-flat_map}
 use Rattle.octets.proofs.NumbersLaws.{length-to_be}
@@ -73,20 +73,15 @@ pub mark_put : (l : List ℕ) {a b : List ℕ} → a ≡ sets l 0 (to_be 4 (reco
 unfolding to_be bytes_of
 mark_put l p q = rw (q, p) (sets-run (to_be 4 (record_mark * 256)) (to_be 1 record_version) l 0 4 refl)
 
--- all fields of a record, in four runs
-pub fields_put : (q : Request) (n : ℕ) (l : List ℕ) {a b c d : List ℕ}
-    → a ≡ sets l 0 (bytes_of record_fields (record_mark ∷ record_version ∷ []))
-    → b ≡ sets a (offset record_fields 2) (bytes_of (drop 2 record_fields) (q.kind ∷ q.flags ∷ q.area ∷ []))
-    → c ≡ sets b (offset record_fields 5) (bytes_of (drop 5 record_fields) (q.identifier ∷ q.serial ∷ q.content ∷ q.period.0 ∷ []))
-    → d ≡ sets c (offset record_fields 9) (bytes_of (drop 9 record_fields) (q.requested.0 ∷ q.sib ∷ 0 ∷ n ∷ []))
-    → d ≡ sets l 0 (bytes_of record_fields (request_numbers q n))
-unfolding puts offset request_numbers
-fields_put q n l {a} {b} {c} e₁ e₂ e₃ e₄ =
-    let p₁ = e₁ ∙ sym (puts_bytes_of l 0 record_fields (record_mark ∷ record_version ∷ [])) in
-    let p₂ = e₂ ∙ sym (puts_bytes_of a (offset record_fields 2) (drop 2 record_fields) (q.kind ∷ q.flags ∷ q.area ∷ [])) in
-    let p₃ = e₃ ∙ sym (puts_bytes_of b (offset record_fields 5) (drop 5 record_fields) (q.identifier ∷ q.serial ∷ q.content ∷ q.period.0 ∷ [])) in
-    let p₄ = e₄ ∙ sym (puts_bytes_of c (offset record_fields 9) (drop 9 record_fields) (q.requested.0 ∷ q.sib ∷ 0 ∷ n ∷ [])) in
-    rw (p₄, p₃, p₂, p₁) (puts_bytes_of l 0 record_fields (request_numbers q n))
+-- all fields of a record: mark and version, and the others behind them
+pub fields_put : (q : Request) (n : ℕ) (l : List ℕ) {a b c : List ℕ} → a ≡ sets l 0 (to_be 4 (record_mark * 256)) → b ≡ sets a 4 (to_be 1 record_version)
+    → c ≡ puts b 5 (drop 2 record_fields) (drop 2 (request_numbers q n))
+    → c ≡ sets l 0 (bytes_of record_fields (request_numbers q n))
+unfolding puts request_numbers
+fields_put q n l mark version rest =
+    rest
+    ∙ rw (mark_put l mark version ∙ sym (puts_bytes_of l 0 record_fields (record_mark ∷ record_version ∷ [])))
+    (puts_bytes_of l 0 record_fields (request_numbers q n))
 
 -- ---- 4 (n only), 5, 6, 7 and 8 in their order
 

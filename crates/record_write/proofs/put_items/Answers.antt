@@ -14,8 +14,8 @@ loop-k-init c = record { within = omega arith; here = refl; long = refl; same = 
 pub loop-k-preserved : goal.loop-k-preserved
 loop-k-preserved c =
     let l = c.loop-k in
-    let put = c.put64.ensures in
-    let also = c.put64-in-loop-k.ensures in
+    let put = c.put.ensures in
+    let also = c.put-in-loop-k.ensures in
     record {
       within = omega arith;
       here = omega arith;
@@ -33,4 +33,4 @@ returns-then-items-k c =
 pub returns : goal.returns
 returns c =
     let l = c.loop-k in
-    sym (l.invariant.same ∙ put_last (item_size current) l.buffer l.at _ l.k c.put64-2.ensures c.if-items-k.false c.loop-k-test.false)
+    sym (l.invariant.same ∙ put_last (item_size current) l.buffer l.at _ l.k c.put-2.ensures c.if-items-k.false c.loop-k-test.false)
