@@ -30,7 +30,7 @@ use Rattle.rules.proofs.RecordTrips.{AcceptedWriting, writing_accepted}
 
 module _ (w : ℕ) (b : List ℕ) (i : ℕ) (xs : List ℕ) (k : ℕ) where
   -- a turn of the loop that stores the numbers of xs from index i on
-  put_next : k < length xs → sets b i (flat_map (to_be w) (drop k xs)) ≡ sets (sets b i (to_be w (get_or xs k 0))) (i + w) (flat_map (to_be w) (drop (k + 1) xs))
+  pub put_next : k < length xs → sets b i (flat_map (to_be w) (drop k xs)) ≡ sets (sets b i (to_be w (get_or xs k 0))) (i + w) (flat_map (to_be w) (drop (k + 1) xs))
   unfolding flat_map
   put_next h =
       rw (drop-cons xs k 0 h, add-one)
@@ -39,18 +39,6 @@ module _ (w : ℕ) (b : List ℕ) (i : ℕ) (xs : List ℕ) (k : ℕ) where
   pub all_put : length xs ≤ k → sets b i (flat_map (to_be w) (drop k xs)) ≡ b
   unfolding flat_map
   all_put h = rw (drop_of_length-le xs h)
-
-module _ (w : ℕ) (b : List ℕ) (i : ℕ) (xs : List ℕ) (k : ℕ) {c : List ℕ} (p : c ≡ sets b i (to_be w (get_or xs k 0))) where
-  -- two of them in a turn
-  pub put_two : {d : List ℕ} {j m : ℕ} → d ≡ sets c (i + w) (to_be w (get_or xs (k + 1) 0)) → k + 1 < length xs → j ≡ i + w + w → m ≡ k + 1 + 1
-      → sets b i (flat_map (to_be w) (drop k xs)) ≡ sets d j (flat_map (to_be w) (drop m xs))
-  put_two q h e f =
-      put_next w b i xs k (omega arith)
-      ∙ rw (e, f, q, p) (put_next w (sets b i (to_be w (get_or xs k 0))) (i + w) xs (k + 1) h)
-
-  -- the last one, where one is left
-  pub put_last : k < length xs → length xs ≤ k + 1 → sets b i (flat_map (to_be w) (drop k xs)) ≡ c
-  put_last h e = put_next w b i xs k h ∙ rw p (all_put w (sets b i (to_be w (get_or xs k 0))) (i + w) xs (k + 1) e)
 
 -- ---- fields that are stored
 

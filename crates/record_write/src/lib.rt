@@ -97,23 +97,15 @@ pub fn put_fields(buffer: &mut [u8], request: Request, n: u16)
     put(buffer, COUNT_AT, n);
 }
 
-// Every item behind the fields. Two in a turn: of single ones the compiler makes vectors, whose bytes cost more to turn.
+// Every item behind the fields.
+#[tactic(auto, using(crate::proofs::WriteLaws::put_next, crate::proofs::WriteLaws::all_put))]
 fn put_items(buffer: &mut [u8], items: &[u64])
     requires { record_size + item_size current * length items.now ≤ length buffer.old }
     ensures { buffer.new ≡ sets buffer.old record_size (flat_map (to_be (item_size current)) items.now) }
 {
-    let mut at = RECORD;
-    let mut k = 0;
-    while k + 1 < items.len() {
-        put(buffer, at, items[k]);
-        put(buffer, at + ITEM, items[k + 1]);
-        at += 2 * ITEM;
-        k += 2;
+    for (k, item) in items.iter().enumerate() {
+        put(buffer, RECORD + ITEM * k, *item);
     }
-    if items.len() <= k {
-        return;
-    }
-    put(buffer, at, items[k]);
 }
 
 // ---- both
