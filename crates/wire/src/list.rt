@@ -6,7 +6,7 @@ ghost use Rattle.wire.specs.Readers.{ItemGraded, GradeLies, plain_head, PlainIte
 
 use crate::form::{IDENTITY_AT, IDENTITY_END, LISTED_HEAD};
 use crate::{Marks, Message, identity_at};
-use aper::{CRITICALITIES, Element, REJECT, element_at, given_at};
+use aper::{Criticality, Element, element_at, given_at};
 use octets::get;
 
 // The last byte of NR CGI, of which four bits are padding; in the list it stands behind the head of its entry.
@@ -108,12 +108,10 @@ fn entry_at<const PLAIN: bool>(m: Message, plain: u32, s: &[u8], at: usize) -> O
             identity,
         });
     }
-    if CRITICALITIES <= criticality {
-        return None;
-    }
+    let criticality = Criticality::try_from(criticality).ok()?;
     Some(Listed {
         end,
-        rejected: criticality == REJECT,
+        rejected: criticality == Criticality::Reject,
         foreign: true,
         identity: 0,
     })

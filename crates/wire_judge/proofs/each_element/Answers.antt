@@ -8,33 +8,33 @@ use Rattle.wire_judge.proofs.each_element.Goals as goal
 pub returns-then-s-lt-FIRST_AT : goal.returns-then-s-lt-FIRST_AT
 returns-then-s-lt-FIRST_AT g c = walk-short _ _ (λ i. (c.type_inv.s i).fits) c.if-s-lt-FIRST_AT.true
 
-pub returns-then-get8-ne0 : goal.returns-then-get8-ne0
-returns-then-get8-ne0 g c = walk-extended _ _ _ c.if-s-lt-FIRST_AT.false c.get8.ensures c.if-get8-ne0.true
+pub returns-then-get-ne0 : goal.returns-then-get-ne0
+returns-then-get-ne0 g c = walk-extended _ _ _ c.if-s-lt-FIRST_AT.false c.get.ensures c.if-get-ne0.true
 
 pub loop-init : goal.loop-init
 loop-init g c =
     rw (c.nothing-kept.ensures, sub-zero)
-    (walk_start _ _ _ c.if-s-lt-FIRST_AT.false c.get8.ensures c.if-get8-ne0.false _ c.get16-end.ensures)
+    (walk_start _ _ _ c.if-s-lt-FIRST_AT.false c.get.ensures c.if-get-ne0.false _ c.get-end.ensures)
 
 pub element_at-requires : goal.element_at-requires
 element_at-requires g c = c.loop.invariant.walking.within
 
-pub returns-in-None : goal.returns-in-None
-returns-in-None g c =
-    turn_broken _ _ c.loop.invariant (omega arith) (turn-none _ _ _ _ c.loop.invariant.lies (rw c.in-None.is at c.element_at.ensures) 0)
+pub returns-in_err-element : goal.returns-in_err-element
+returns-in_err-element g c =
+    rw c.from_residual.ensures
+    (turn_broken _ _ c.loop.invariant (omega arith) (turn-none _ _ _ _ c.loop.invariant.lies c.in_err-element.ensures 0))
 
 pub with-requires-clause-lies : goal.with-requires-clause-lies
 with-requires-clause-lies g c = c.loop.invariant.lies
 
-pub returns-in_err-kept-in-One : goal.returns-in_err-kept-in-One
-returns-in_err-kept-in-One g c =
-    rw c.from_residual.ensures
-    (turn_broken _ _ c.loop.invariant (omega arith) (c.in_err-kept-in-One.ensures c.loop.at (rw c.in-One.is at c.element_at.ensures)))
+pub returns-in_err-kept : goal.returns-in_err-kept
+returns-in_err-kept g c =
+    rw c.from_residual-in_err-kept.ensures
+    (turn_broken _ _ c.loop.invariant (omega arith) (c.in_err-kept.ensures c.loop.at c.in_ok-element.ensures))
 
 pub loop-preserved : goal.loop-preserved
 loop-preserved g c =
-    turn_on _ _ c.loop.invariant (omega arith) (omega arith) _ _
-    (c.in_ok-kept-in-One.ensures c.loop.at (rw c.in-One.is at c.element_at.ensures))
+    turn_on _ _ c.loop.invariant (omega arith) (omega arith) _ _ (c.in_ok-kept.ensures c.loop.at c.in_ok-element.ensures)
 
 pub returns-then-at-s : goal.returns-then-at-s
 returns-then-at-s g c = walk-behind _ _ c.loop.invariant (omega arith) c.if-at-s.true
