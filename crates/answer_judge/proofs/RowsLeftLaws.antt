@@ -1,13 +1,12 @@
 -- The rows still to come, where the judge's one pass stands: the next one may follow or not, and its NR CGI says what the least behind it is.
 -- Each row is a piece of the bytes behind the head, and each of its numbers stands where it is read.
 use mathlib.Core.Path.{◌≡◌, refl, sym, ap, ◌∙◌}
-use mathlib.Core.Bool.{Bool, true, false, not, ◌&&◌, ◌||◌}
+use mathlib.Core.Bool.{Bool, true, false, ◌&&◌, ◌||◌}
 use mathlib.Core.List.{List}
 use Prim.Native.Nat.{ℕ, ◌+◌, ◌*◌, ◌≤◌, ◌<◌}
-use native.Mathlib.Omega.{arith}
 use lib.Dec.{eqb, ltb, leb}
 use lib.ListN.{length}
-use borrow.Author.Tests.{le-leb, lt-leb, lt-ltb, le-ltb, not-true, not-false}
+use borrow.Author.Tests.{le-leb, lt-leb, lt-ltb, le-ltb}
 use Rattle.octets.specs.Runs.{gets}
 use Rattle.octets.specs.Numbers.{be}
 use Rattle.rules.specs.Layout.{current, answer_size, row_size, cell_end}
@@ -41,12 +40,11 @@ row_begin k = answer_size current + row_size current * k
 
 -- what the pass is to find is what is still to be found
 pub record RowsLeft (counted : Bool) (answer : List ℕ) (many k least : ℕ) : Type 0 where
-  pub few : k ≤ many
   pub same : follow counted 0 (rows_in answer many) ≡ follow counted least (rows_from answer many k)
 
 module _ (counted : Bool) (answer : List ℕ) (many : ℕ) (fits : answer_size current + row_size current * many ≤ length answer) where
   pub rows_start : RowsLeft counted answer many 0 0
-  rows_start = record { few = omega arith; same = rw (rows-first answer many) }
+  rows_start = record { same = rw (rows-first answer many) }
 
   pub rows_end : {k least : ℕ} → RowsLeft counted answer many k least → many ≤ k → true ≡ follow counted 0 (rows_in answer many)
   unfolding follow
@@ -75,8 +73,8 @@ module _ (counted : Bool) (answer : List ℕ) (many : ℕ) (fits : answer_size c
 
       -- and what it says besides was tested: m is what the test said
       module _ (small : i < cell_end) (m : Bool) (em : m ≡ right_told counted (row_from answer (row_begin k))) where
-        pub row-wrong : not m ≡ true → false ≡ follow counted 0 (rows_in answer many)
-        row-wrong e = rw (ahead, le-leb least i above, lt-ltb i cell_end small, ← em, not-true m e)
+        pub row-wrong : m ≡ false → false ≡ follow counted 0 (rows_in answer many)
+        row-wrong e = rw (ahead, le-leb least i above, lt-ltb i cell_end small, ← em, e)
 
-        pub row_on : not m ≡ false → RowsLeft counted answer many (k + 1) (i + 1)
-        row_on e = record { few = omega arith; same = rw (ahead, le-leb least i above, lt-ltb i cell_end small, ← em, not-false m e) }
+        pub row_on : m ≡ true → RowsLeft counted answer many (k + 1) (i + 1)
+        row_on e = record { same = rw (ahead, le-leb least i above, lt-ltb i cell_end small, ← em, e) }

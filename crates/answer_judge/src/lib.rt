@@ -26,6 +26,7 @@ pub fn can_be_answered(answer: &[u8]) -> bool
     rows_follow(answer, rows(answer), kind(answer) == CANCEL_OR_KILL)
 }
 
+#[tactic(auto, unfolding(crate::specs::OnePass::right_head))]
 fn head_right(answer: &[u8]) -> bool
     ensures { result ≡ right_head answer.now }
 {
@@ -58,8 +59,7 @@ fn rows_follow(answer: &[u8], many: usize, counted: bool) -> bool
     ensures { result ≡ follow counted 0 (map (row_of current) (pieces (row_size current) many (drop (answer_size current) answer.now))) }
 {
     let mut least: u64 = 0;
-    let mut k: usize = 0;
-    while k < many {
+    for k in 0..many {
         let at = ANSWER + ROW * k;
         let identity = get::<u64>(answer, at);
         if identity < least {
@@ -72,7 +72,6 @@ fn rows_follow(answer: &[u8], many: usize, counted: bool) -> bool
             return false;
         }
         least = identity + 1;
-        k += 1;
     }
     true
 }

@@ -39,10 +39,7 @@ fn verdict(table: &[u8], req: &[u8], room: usize) -> Result<(), Refusal>
 fn idle(request: Request) -> bool
     ensures { result ≡ is_idle request }
 {
-    if request.kind != WRITE_REPLACE {
-        return false;
-    }
-    starts_nothing(request)
+    request.kind == WRITE_REPLACE && starts_nothing(request)
 }
 
 // An accepted request: the number of rows. A start that the zero rules stop changes no cell.

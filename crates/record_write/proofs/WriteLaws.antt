@@ -10,7 +10,7 @@ use lib.ListN.{length, drop, get_or, length-append, drop_of_length-le}
 use lib.Seq.{sets, drop-cons}
 use borrow.Author.Tests.{le-leb, lt-leb}
 use Rattle.octets.specs.Numbers.{to_be}
-use Rattle.octets.specs.Fields.{bytes_of, offset}
+use Rattle.octets.specs.Fields.{bytes_of}
 use Rattle.octets.proofs.RunsLaws.{sets-run}
 use Rattle.octets.proofs.PiecesLaws.{length-flat_map}
 use Rattle.octets.proofs.NumbersLaws.{length-to_be}
@@ -30,7 +30,7 @@ use Rattle.rules.proofs.RecordTrips.{AcceptedWriting, writing_accepted}
 
 module _ (w : ℕ) (b : List ℕ) (i : ℕ) (xs : List ℕ) (k : ℕ) where
   -- a turn of the loop that stores the numbers of xs from index i on
-  put_next : k < length xs → sets b i (flat_map (to_be w) (drop k xs)) ≡ sets (sets b i (to_be w (get_or xs k 0))) (i + w) (flat_map (to_be w) (drop (k + 1) xs))
+  pub put_next : k < length xs → sets b i (flat_map (to_be w) (drop k xs)) ≡ sets (sets b i (to_be w (get_or xs k 0))) (i + w) (flat_map (to_be w) (drop (k + 1) xs))
   unfolding flat_map
   put_next h =
       rw (drop-cons xs k 0 h, add-one)
@@ -39,18 +39,6 @@ module _ (w : ℕ) (b : List ℕ) (i : ℕ) (xs : List ℕ) (k : ℕ) where
   pub all_put : length xs ≤ k → sets b i (flat_map (to_be w) (drop k xs)) ≡ b
   unfolding flat_map
   all_put h = rw (drop_of_length-le xs h)
-
-module _ (w : ℕ) (b : List ℕ) (i : ℕ) (xs : List ℕ) (k : ℕ) {c : List ℕ} (p : c ≡ sets b i (to_be w (get_or xs k 0))) where
-  -- two of them in a turn
-  pub put_two : {d : List ℕ} {j m : ℕ} → d ≡ sets c (i + w) (to_be w (get_or xs (k + 1) 0)) → k + 1 < length xs → j ≡ i + w + w → m ≡ k + 1 + 1
-      → sets b i (flat_map (to_be w) (drop k xs)) ≡ sets d j (flat_map (to_be w) (drop m xs))
-  put_two q h e f =
-      put_next w b i xs k (omega arith)
-      ∙ rw (e, f, q, p) (put_next w (sets b i (to_be w (get_or xs k 0))) (i + w) xs (k + 1) h)
-
-  -- the last one, where one is left
-  pub put_last : k < length xs → length xs ≤ k + 1 → sets b i (flat_map (to_be w) (drop k xs)) ≡ c
-  put_last h e = put_next w b i xs k h ∙ rw p (all_put w (sets b i (to_be w (get_or xs k 0))) (i + w) xs (k + 1) e)
 
 -- ---- fields that are stored
 
@@ -73,20 +61,15 @@ pub mark_put : (l : List ℕ) {a b : List ℕ} → a ≡ sets l 0 (to_be 4 (reco
 unfolding to_be bytes_of
 mark_put l p q = rw (q, p) (sets-run (to_be 4 (record_mark * 256)) (to_be 1 record_version) l 0 4 refl)
 
--- all fields of a record, in four runs
-pub fields_put : (q : Request) (n : ℕ) (l : List ℕ) {a b c d : List ℕ}
-    → a ≡ sets l 0 (bytes_of record_fields (record_mark ∷ record_version ∷ []))
-    → b ≡ sets a (offset record_fields 2) (bytes_of (drop 2 record_fields) (q.kind ∷ q.flags ∷ q.area ∷ []))
-    → c ≡ sets b (offset record_fields 5) (bytes_of (drop 5 record_fields) (q.identifier ∷ q.serial ∷ q.content ∷ q.period.0 ∷ []))
-    → d ≡ sets c (offset record_fields 9) (bytes_of (drop 9 record_fields) (q.requested.0 ∷ q.sib ∷ 0 ∷ n ∷ []))
-    → d ≡ sets l 0 (bytes_of record_fields (request_numbers q n))
-unfolding puts offset request_numbers
-fields_put q n l {a} {b} {c} e₁ e₂ e₃ e₄ =
-    let p₁ = e₁ ∙ sym (puts_bytes_of l 0 record_fields (record_mark ∷ record_version ∷ [])) in
-    let p₂ = e₂ ∙ sym (puts_bytes_of a (offset record_fields 2) (drop 2 record_fields) (q.kind ∷ q.flags ∷ q.area ∷ [])) in
-    let p₃ = e₃ ∙ sym (puts_bytes_of b (offset record_fields 5) (drop 5 record_fields) (q.identifier ∷ q.serial ∷ q.content ∷ q.period.0 ∷ [])) in
-    let p₄ = e₄ ∙ sym (puts_bytes_of c (offset record_fields 9) (drop 9 record_fields) (q.requested.0 ∷ q.sib ∷ 0 ∷ n ∷ [])) in
-    rw (p₄, p₃, p₂, p₁) (puts_bytes_of l 0 record_fields (request_numbers q n))
+-- all fields of a record: mark and version, and the others behind them
+pub fields_put : (q : Request) (n : ℕ) (l : List ℕ) {a b c : List ℕ} → a ≡ sets l 0 (to_be 4 (record_mark * 256)) → b ≡ sets a 4 (to_be 1 record_version)
+    → c ≡ puts b 5 (drop 2 record_fields) (drop 2 (request_numbers q n))
+    → c ≡ sets l 0 (bytes_of record_fields (request_numbers q n))
+unfolding puts request_numbers
+fields_put q n l mark version rest =
+    rest
+    ∙ rw (mark_put l mark version ∙ sym (puts_bytes_of l 0 record_fields (record_mark ∷ record_version ∷ [])))
+    (puts_bytes_of l 0 record_fields (request_numbers q n))
 
 -- ---- 4 (n only), 5, 6, 7 and 8 in their order
 

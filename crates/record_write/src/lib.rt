@@ -13,7 +13,7 @@ ghost use Rattle.rules.specs.Lists.{zeros};
 ghost use Rattle.rules.specs.Record.{cancel_zeros, identifier_to_sib, request_numbers};
 ghost use Rattle.rules.specs.Refusals.{write_verdict};
 
-use octets::{put8, put16, put32, put64};
+use octets::put;
 use record_judge::judged;
 use rules::layout::{
     AREA_AT, COUNT_AT, FLAGS_AT, IDENTIFIER_AT, ITEM, KIND_AT, LONGEST_PERIOD, MOST_ITEMS, RECORD,
@@ -45,16 +45,11 @@ fn cancel_zeros(request: Request) -> bool
 }
 
 // Every bit that is set in any item.
+#[tactic(auto, using(crate::proofs::BitsLaws::joined_fold))]
 fn any_item(items: &[u64]) -> u64
     ensures { result ≡ joined 0 items.now }
 {
-    let mut any: u64 = 0;
-    let mut k = 0;
-    while k < items.len() {
-        any = any | items[k];
-        k += 1;
-    }
-    any
+    items.iter().fold(0, |any, x| any | x)
 }
 
 // The first of the refusals 4 (n only), 5, 6, 7 and 8 that applies.
@@ -80,77 +75,37 @@ fn verdict(request: Request, items: &[u64], room: usize) -> Result<(), Refusal>
     Ok(())
 }
 
-// ---- the fields, by their numbers in the layout
+// ---- the fields
 
-// Fields 0 and 1.
-fn put_mark(buffer: &mut [u8])
-    requires { record_size ≤ length buffer.old }
-    ensures { buffer.new ≡ sets buffer.old 0 (bytes_of record_fields (record_mark ∷ record_version ∷ [])) }
-{
-    put32(buffer, 0, RECORD_MARK * 256);
-    put8(buffer, VERSION_AT + 1, RECORD_VERSION);
-}
-
-// Fields 2 to 4.
-fn put_kind(buffer: &mut [u8], request: Request)
-    requires { record_size ≤ length buffer.old }
-    ensures { buffer.new ≡ sets buffer.old (offset record_fields 2) (bytes_of (drop 2 record_fields) (request.kind ∷ request.flags ∷ request.area ∷ [])) }
-{
-    put8(buffer, KIND_AT, request.kind);
-    put8(buffer, FLAGS_AT, request.flags);
-    put8(buffer, AREA_AT, request.area);
-}
-
-// Fields 5 to 8.
-fn put_text(buffer: &mut [u8], request: Request)
-    requires { record_size ≤ length buffer.old }
-    ensures { buffer.new ≡ sets buffer.old (offset record_fields 5) (bytes_of (drop 5 record_fields) (request.identifier ∷ request.serial ∷ request.content ∷ request.period.0 ∷ [])) }
-{
-    put16(buffer, IDENTIFIER_AT, request.identifier);
-    put16(buffer, SERIAL_AT, request.serial);
-    put32(buffer, RECORD_CONTENT_AT, request.content);
-    put32(buffer, RECORD_PERIOD_AT, request.period.0);
-}
-
-// Fields 9 to 12.
-fn put_counts(buffer: &mut [u8], request: Request, n: u16)
-    requires { record_size ≤ length buffer.old }
-    ensures { buffer.new ≡ sets buffer.old (offset record_fields 9) (bytes_of (drop 9 record_fields) (request.requested.0 ∷ request.sib ∷ 0 ∷ n ∷ [])) }
-{
-    put16(buffer, RECORD_REQUESTED_AT, request.requested.0);
-    put8(buffer, RECORD_SIB_AT, request.sib);
-    put8(buffer, ZERO_AT, 0);
-    put16(buffer, COUNT_AT, n);
-}
-
-// All of them, the mark and the version in front.
+// Mark and version, of which the first byte is 0 and is stored with the mark, and then the request field by field.
 pub fn put_fields(buffer: &mut [u8], request: Request, n: u16)
     requires { record_size ≤ length buffer.old }
     ensures { buffer.new ≡ sets buffer.old 0 (bytes_of record_fields (request_numbers request n)) }
 {
-    put_mark(buffer);
-    put_kind(buffer, request);
-    put_text(buffer, request);
-    put_counts(buffer, request, n);
+    put(buffer, 0, RECORD_MARK * 256);
+    put(buffer, VERSION_AT + 1, RECORD_VERSION);
+    put(buffer, KIND_AT, request.kind);
+    put(buffer, FLAGS_AT, request.flags);
+    put(buffer, AREA_AT, request.area);
+    put(buffer, IDENTIFIER_AT, request.identifier);
+    put(buffer, SERIAL_AT, request.serial);
+    put(buffer, RECORD_CONTENT_AT, request.content);
+    put(buffer, RECORD_PERIOD_AT, request.period.0);
+    put(buffer, RECORD_REQUESTED_AT, request.requested.0);
+    put(buffer, RECORD_SIB_AT, request.sib);
+    put::<u8>(buffer, ZERO_AT, 0);
+    put(buffer, COUNT_AT, n);
 }
 
-// Every item behind the fields. Two in a turn: of single ones the compiler makes vectors, whose bytes cost more to turn.
+// Every item behind the fields.
+#[tactic(auto, using(crate::proofs::WriteLaws::put_next, crate::proofs::WriteLaws::all_put))]
 fn put_items(buffer: &mut [u8], items: &[u64])
     requires { record_size + item_size current * length items.now ≤ length buffer.old }
     ensures { buffer.new ≡ sets buffer.old record_size (flat_map (to_be (item_size current)) items.now) }
 {
-    let mut at = RECORD;
-    let mut k = 0;
-    while k + 1 < items.len() {
-        put64(buffer, at, items[k]);
-        put64(buffer, at + ITEM, items[k + 1]);
-        at += 2 * ITEM;
-        k += 2;
+    for (k, item) in items.iter().enumerate() {
+        put(buffer, RECORD + ITEM * k, *item);
     }
-    if items.len() <= k {
-        return;
-    }
-    put64(buffer, at, items[k]);
 }
 
 // ---- both

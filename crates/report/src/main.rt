@@ -25,15 +25,11 @@ const OUT: usize = 131072;
 
 // The program ends with status 0 all the same: a line on standard error says it.
 fn cannot_write(rt: HostRuntime) {
-    let _ = rt
-        .stderr()
-        .write_all(b"report: standard output cannot be written\n");
+    let _ = eprintln!(rt; "report: standard output cannot be written");
 }
 
 fn cannot_read(rt: HostRuntime) {
-    let _ = rt
-        .stderr()
-        .write_all(b"report: standard input cannot be read\n");
+    let _ = eprintln!(rt; "report: standard input cannot be read");
 }
 
 // ---- writing and reading

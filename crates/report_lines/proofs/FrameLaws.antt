@@ -1,4 +1,4 @@
--- Laws of framing: each case of a record's own size and of the next frame; and bytes moved to the front one by one.
+-- Laws of framing: each case of N, of a record's own size and of the next frame; and what moving bytes to the front leaves.
 use Rattle.std.specs.Prelude.{Some, None, ◌⊎◌}
 use Rattle.std.specs.Bool.{then_some}
 use Rattle.std.specs.List.{copy_within}

@@ -30,6 +30,11 @@ told to nothing y e = ap (summed (λ a. kept (to a))) e
 told to (found a []) y e = ap (summed (λ a. kept (to a))) e
 told to (found a (b ∷ bs)) y e = ap (summed (λ a. kept (to a))) e
 
+-- a byte as a number
+pub byte_at : (l : List ℕ) (i : ℕ) → get_or l i 0 ≡ be (gets l i 1)
+unfolding be gets
+byte_at l i = omega arith
+
 -- ---- a number, and fields in bits
 
 module _ (l : List ℕ) (w : ℕ) where

@@ -88,13 +88,10 @@ pub fn identity_at(s: &[u8], at: usize) -> u64
 pub fn transaction(part: &[u8]) -> Option<u8>
     ensures { Tells (contents_by CancelRequest the_transaction) part.now (transaction_heard result) }
 {
-    if part.len() != 2 {
-        return None;
+    match part {
+        [0, number] => Some(*number),
+        _ => None,
     }
-    if get::<u8>(part, 0) != 0 {
-        return None;
-    }
-    Some(get::<u8>(part, 1))
 }
 
 fn requested(part: &[u8]) -> Option<Heard>
@@ -109,13 +106,10 @@ fn requested(part: &[u8]) -> Option<Heard>
 fn indicator(part: &[u8]) -> Option<Heard>
     ensures { Tells (contents_by CancelRequest the_indicator) part.now result }
 {
-    if part.len() != 1 {
-        return None;
+    match part {
+        [0] => Some(Heard::CancelAll),
+        _ => None,
     }
-    if get::<u8>(part, 0) != 0 {
-        return None;
-    }
-    Some(Heard::CancelAll)
 }
 
 // A notification's five bytes as one number: an extension bit, whether extensions follow, two numbers of 16 bits, and six bits of padding.
@@ -127,6 +121,11 @@ const IDENTIFIER: u64 = 1 << 22;
 
 const SERIAL: u64 = 1 << 6;
 
+// One more than the largest number of 16 bits, and of 32.
+const WIDE: u64 = 1 << 16;
+
+const WIDER: u64 = 1 << 32;
+
 fn note_at(s: &[u8], at: usize) -> Option<Note>
     requires { at ≤ length s.now }
     ensures { NoteAt s.now at result }
@@ -137,7 +136,7 @@ fn note_at(s: &[u8], at: usize) -> Option<Note>
     let front = get::<u8>(s, at) as u64;
     let middle = get::<u16>(s, at + 1) as u64;
     let back = get::<u16>(s, at + 3) as u64;
-    let n = front * 4294967296 + middle * 65536 + back;
+    let n = front * WIDER + middle * WIDE + back;
     if EXTENDED <= n {
         return None;
     }
@@ -146,8 +145,8 @@ fn note_at(s: &[u8], at: usize) -> Option<Note>
     }
     Some(Note {
         present: (n / PRESENT) as u8,
-        identifier: (n / IDENTIFIER % 65536) as u16,
-        serial: (n / SERIAL % 65536) as u16,
+        identifier: (n / IDENTIFIER % WIDE) as u16,
+        serial: (n / SERIAL % WIDE) as u16,
         end: at + 5,
     })
 }

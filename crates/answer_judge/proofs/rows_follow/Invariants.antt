@@ -1,9 +1,5 @@
-use Prim.Native.Nat.{◌-◌}
 use Rattle.answer_judge.proofs.RowsLeftLaws.{RowsLeft}
 use Rattle.answer_judge.proofs.rows_follow.Given as goal
 
 abbrev pub invariant-loop-k : goal.invariant-loop-k
 invariant-loop-k l = RowsLeft l.counted l.answer l.many l.k l.least
-
-abbrev pub decreases-loop-k : goal.decreases-loop-k
-decreases-loop-k l = l.many - l.k

@@ -1,12 +1,16 @@
 -- `indicator` tells of cancel-all: one byte 0, by the laws of contents of a fixed number of bytes.
-use Rattle.wire.proofs.FixedLaws.{indicator-length, indicator-set, indicator-there}
+use native.Mathlib.Omega.{arith}
+use Rattle.wire.proofs.FixedLaws.{byte_at, indicator-length, indicator-set, indicator-there}
 use Rattle.wire.proofs.indicator.Goals as goal
 
-pub returns-then-part-ne1 : goal.returns-then-part-ne1
-returns-then-part-ne1 c = indicator-length _ c.if-part-ne1.true
+pub returns-in-0 : goal.returns-in-0
+returns-in-0 c = indicator-there _ _ (omega arith) (byte_at _ 0) (omega arith)
 
-pub returns-then-get-ne0 : goal.returns-then-get-ne0
-returns-then-get-ne0 c = indicator-set _ _ c.if-part-ne1.false c.get.ensures c.if-get-ne0.true
+pub returns-in_default : goal.returns-in_default
+returns-in_default c = indicator-length _ (λ e. omega arith)
 
-pub returns : goal.returns
-returns c = indicator-there _ _ c.if-part-ne1.false c.get.ensures c.if-get-ne0.false
+pub returns-in_default-2 : goal.returns-in_default-2
+returns-in_default-2 c = indicator-set _ _ (omega arith) (byte_at _ 0) (λ e. omega arith)
+
+pub returns-in_default-3 : goal.returns-in_default-3
+returns-in_default-3 c = indicator-length _ (λ e. omega arith)
