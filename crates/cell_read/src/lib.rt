@@ -26,7 +26,7 @@ pub struct Terms {
 
 pub fn is_live(cell: &[u8], k: usize) -> bool
     requires formed { Formed cell.now }
-    requires k_lt_places_per_cell { k < places_per_cell }
+    requires place_in_cell { k < places_per_cell }
     ensures { result ≡ ltb k (length (live_places cell.now)) }
 {
     get::<u8>(cell, HEAD + PLACE * k + LIVE_AT) != 0

@@ -1,6 +1,7 @@
 -- `grant` leaves what an accepted request leaves: the walk's table and rows behind the answer's head, or an answer without rows.
 -- By the two cases of an idle start.
 use mathlib.Core.Path.{sym, ◌∙◌}
+use borrow.Author.Rules.{rules}
 use Rattle.octets.specs.Runs.{Bytes}
 use Rattle.engine.proofs.CallLaws.{long-record, long-table, call_req, call_table}
 use Rattle.engine.proofs.GrantLaws.{answer-room, idle_granted, walk_granted, to-walk}
@@ -9,10 +10,10 @@ use Rattle.engine.proofs.apply.grant.Goals as goal
 
 -- the bytes of the table and of the record
 table-bytes : (c : After-idle) → Bytes c.args.table.now
-table-bytes c i = (c.slice_known-1.given i).fits
+table-bytes c = search rules
 
 record-bytes : (c : After-idle) → Bytes c.args.req.now
-record-bytes c i = (c.shared_slice_known-1.given i).fits
+record-bytes c = search rules
 
 pub request-fields-requires : goal.request-fields-requires
 request-fields-requires c = long-record _ (call_req _ _ _ c.requires)

@@ -3,6 +3,7 @@
 use mathlib.Core.Path.{sym, ◌∙◌}
 use Prim.Native.Nat.{◌<◌}
 use native.Mathlib.Omega.{arith}
+use borrow.Author.Rules.{rules}
 use Rattle.in_cell.proofs.ReadyLaws.{ready_apart, ready_small}
 use Rattle.in_cell.proofs.StopLaws.{cancel-every, cancel-one}
 use Rattle.in_cell.proofs.cancel.cancel_in_cell.Goals.{Else-cancels_all}
@@ -20,6 +21,6 @@ returns-then-cancels_all c =
 pub returns : goal.returns
 returns c =
     let flag = sym c.cancels_all.ensures ∙ c.if-cancels_all.false in
-    let each = ready_small c.args.cell.now c.args.out.now 1 c.requires (λ i. (c.slice_known-1.given i).fits) in
+    let each = ready_small c.args.cell.now c.args.out.now 1 c.requires (search rules) in
     let apart = ready_apart c.args.cell.now c.args.out.now 1 c.requires in
     rw (cancel-one c.args.request _ flag (small (goal.at.returns c).Else-cancels_all) each apart, ← c.text.ensures) c.cancel_text.ensures

@@ -1,6 +1,7 @@
 -- `cancel_text` stops the place with that text and reports its sent count; without one it leaves both buffers as they are.
 -- What the search gave says which: `found_stops` and `absent_idle`.
 use mathlib.Core.Path.{ap}
+use borrow.Author.Rules.{rules}
 use Rattle.rules.specs.declared.Broadcasts.{Broadcasts}
 use Rattle.cell_read.specs.Places.{Formed, LiveAt}
 use Rattle.cell_read.proofs.PlacesLaws.{live_at}
@@ -10,17 +11,17 @@ use Rattle.in_cell.proofs.cancel.cancel_text.Goals.{After-seek, In-Ok}
 use Rattle.in_cell.proofs.cancel.cancel_text.Goals as goal
 
 formed : (c : After-seek) → Formed c.args.cell.now
-formed c = ready_formed c.args.cell.now c.args.out.now 1 c.requires (λ i. (c.slice_known-1.given i).fits)
+formed c = ready_formed c.args.cell.now c.args.out.now 1 c.requires (search rules)
 
 live : (c : In-Ok) → LiveAt c.args.cell.now c.in-Ok.at
 live c =
-    let formed = ready_formed c.args.cell.now c.args.out.now 1 c.requires (λ i. (c.slice_known-1.given i).fits) in
+    let formed = ready_formed c.args.cell.now c.args.out.now 1 c.requires (search rules) in
     live_at c.args.cell.now formed _ c.in-Ok.ensures.found.1
 
 -- ---- the steps
 
 pub seek-requires : goal.seek-requires
-seek-requires c = ready_formed c.args.cell.now c.args.out.now 1 c.requires (λ i. (c.slice_known-1.given i).fits)
+seek-requires c = ready_formed c.args.cell.now c.args.out.now 1 c.requires (search rules)
 
 pub sent-count-requires : goal.sent-count-requires
 sent-count-requires c = live (goal.at.sent-count-requires c).In-Ok

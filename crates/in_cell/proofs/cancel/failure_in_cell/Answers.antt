@@ -10,7 +10,7 @@ use Rattle.in_cell.proofs.cancel.failure_in_cell.Goals as goal
 
 pub is_live-requires : goal.is_live-requires
 is_live-requires c =
-    record { formed = ready_formed c.args.cell.now c.args.out.now 1 c.requires (λ i. (c.slice_known-1.given i).fits); k_lt_places_per_cell = search rules }
+    record { formed = ready_formed c.args.cell.now c.args.out.now 1 c.requires (search rules); place_in_cell = search rules }
 
 pub returns-then-is_live : goal.returns-then-is_live
 unfolding restart
@@ -19,5 +19,5 @@ returns-then-is_live c = rw (failure-live _ (sym c.is_live.ensures ∙ c.if-is_l
 pub returns-else-is_live : goal.returns-else-is_live
 returns-else-is_live c =
     let free = sym c.is_live.ensures ∙ c.if-is_live.false in
-    let formed = ready_formed c.args.cell.now c.args.out.now 1 c.requires (λ i. (c.slice_known-1.given i).fits) in
+    let formed = ready_formed c.args.cell.now c.args.out.now 1 c.requires (search rules) in
     idle _ c.args.cell.now c.args.out.now formed (failure-free _ free)

@@ -1,5 +1,6 @@
 -- `second_in_cell` leaves the cell and the rows of one second.
 -- The first pass is `all_later`, the second `close_up`, and the two are the rule: `stepped_one` and `stepped_two`.
+use borrow.Author.Rules.{rules}
 use Rattle.octets.specs.Runs.{Bytes}
 use Rattle.in_cell.proofs.Passes.{pass_leaves, stepped_one, stepped_two}
 use Rattle.in_cell.proofs.second.second_in_cell.Goals.{After-all_later-pass}
@@ -7,7 +8,7 @@ use Rattle.in_cell.proofs.second.second_in_cell.Goals as goal
 
 -- behind the first pass
 bytes : (p : After-all_later-pass) → Bytes p.args.cell.now
-bytes p = λ i. (p.slice_known-1.given i).fits
+bytes p = search rules
 
 pub close_up-requires : goal.close_up-requires
 close_up-requires c =

@@ -3,6 +3,7 @@
 use mathlib.Core.Path.{◌≡◌, sym, ap, ◌∙◌}
 use native.Mathlib.Omega.{arith}
 use Prim.Native.Nat.{ℕ}
+use borrow.Author.Rules.{rules}
 use Rattle.cell_read.specs.Places.{live_places, OnePlace, index_of}
 use Rattle.in_cell.proofs.ReadyLaws.{ready_formed}
 use Rattle.in_cell.proofs.StartLaws.{Begun, new-one, start_repeats, free_here, free-first, start-alone, start-behind, start_nowhere}
@@ -16,7 +17,7 @@ begun c e =
     record {
       ready = c.requires.ready;
       input = c.requires.start_in;
-      bytes = λ i. (c.slice_known-1.given i).fits;
+      bytes = search rules;
       small = omega arith;
       place = e ∙ ap (λ (text : ℕ). index_of text (live_places c.args.cell.now)) c.text.ensures;
     }
@@ -27,7 +28,7 @@ one c = new-one c.args.request c.args.new.now c.requires.start_in
 -- ---- the steps
 
 pub seek-requires : goal.seek-requires
-seek-requires c = ready_formed c.args.cell.now c.args.out.now 1 c.requires.ready (λ i. (c.slice_known-1.given i).fits)
+seek-requires c = ready_formed c.args.cell.now c.args.out.now 1 c.requires.ready (search rules)
 
 pub returns-in-Ok : goal.returns-in-Ok
 returns-in-Ok c =
