@@ -104,9 +104,7 @@ impl Kept for Met {
     }
 
     fn with(self, m: Message, s: &[u8], element: Element) -> Option<Met> {
-        let start = element.start;
-        let end = element.end;
-        let part = &s[start..end];
+        let part = &s[element.start..element.end];
         if element.id == TRANSACTION {
             return Some(self.identified(transaction(part)?));
         }
@@ -184,10 +182,8 @@ fn plain(m: Message, s: &[u8]) -> Option<Met>
     if list.end != s.len() {
         return None;
     }
-    let start = list.start;
-    let end = list.end;
-    let marks = plain_list(m, &s[start..end])?;
-    Some(alone(number, list.id, start, end, marks.ascends))
+    let marks = plain_list(m, &s[list.start..list.end])?;
+    Some(alone(number, list.id, list.start, list.end, marks.ascends))
 }
 
 // ---- 13 to 16

@@ -67,9 +67,7 @@ fn put_answer(m: Message, elements: &[u8], met: Met, answer: &mut [u8]) -> Resul
     if !met.ascends {
         return Err(Refusal::AnswerWrong);
     }
-    let start = met.start;
-    let end = met.end;
-    let cells = &elements[start..end];
+    let cells = &elements[met.start..met.end];
     let n = cell_count(m, cells);
     let size = length_with(n);
     if answer.len() < size {

@@ -84,9 +84,7 @@ fn put_record(elements: &[u8], seen: Seen, buffer: &mut [u8]) -> Result<usize, R
     if !(seen.all | seen.noted) {
         return Err(Refusal::CancelsNothing);
     }
-    let start = seen.start;
-    let end = seen.end;
-    let cells = &elements[start..end];
+    let cells = &elements[seen.start..seen.end];
     let n = cell_count(Message::CancelRequest, cells);
     if buffer.len() < RECORD + ITEM * n {
         return Err(Refusal::ShortBuffer);

@@ -182,9 +182,7 @@ impl Kept for Seen {
     }
 
     fn with(self, m: Message, s: &[u8], element: Element) -> Option<Seen> {
-        let start = element.start;
-        let end = element.end;
-        let heard = hear(element.id, &s[start..end])?;
+        let heard = hear(element.id, &s[element.start..element.end])?;
         self.told(element, heard)
     }
 
