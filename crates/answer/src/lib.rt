@@ -9,7 +9,7 @@ ghost use Rattle.rules.specs.Record.{kind_of, unknown_kind};
 ghost use Rattle.rules.specs.Answer.{answer_of, answer_head, row_bytes, row_count, room_for};
 ghost use Rattle.answer.specs.Rows.{row_at, row_said};
 
-use octets::{get8, get16, get32, get64, put16, put32, put64};
+use octets::{get, put};
 use rules::kind::ONE_SECOND;
 use rules::layout::{
     ANSWER, ANSWER_KIND_AT, ANSWER_MARK, ANSWER_SERIAL_AT, ANSWER_VERSION, CONTENT_IN_ROW_AT,
@@ -54,12 +54,12 @@ pub fn put_head(answer: &mut [u8], kind: u8, identifier: u16, serial: u16, rows:
     ensures { answer.new ≡ sets answer.old 0 (answer_head current kind identifier serial rows) }
 {
     let marked = (ANSWER_MARK as u64) * 65536 + (ANSWER_VERSION as u64);
-    put64(
+    put(
         answer,
         0,
         (marked * 256 + (kind as u64)) * 65536 + (identifier as u64),
     );
-    put32(
+    put(
         answer,
         ANSWER_SERIAL_AT,
         (serial as u32) * 65536 + (rows as u32),
@@ -71,9 +71,9 @@ pub fn put_row(out: &mut [u8], at: usize, row: Row)
     requires { at + row_size current ≤ length out.old }
     ensures { out.new ≡ sets out.old at (row_bytes current (row_said row)) }
 {
-    put64(out, at, row.identity.0);
-    put16(out, at + COUNT_IN_ROW_AT, row.count.0);
-    put32(out, at + CONTENT_IN_ROW_AT, row.content);
+    put(out, at, row.identity.0);
+    put(out, at + COUNT_IN_ROW_AT, row.count.0);
+    put(out, at + CONTENT_IN_ROW_AT, row.content);
 }
 
 // ---- read
@@ -82,7 +82,7 @@ pub fn kind(answer: &[u8]) -> u8
     requires { answer_size current ≤ length answer.now }
     ensures { result ≡ (answer_of current answer.now).kind }
 {
-    get8(answer, ANSWER_KIND_AT)
+    get::<u8>(answer, ANSWER_KIND_AT)
 }
 
 // How many rows the head says that there are.
@@ -90,7 +90,7 @@ pub fn rows(answer: &[u8]) -> usize
     requires { answer_size current ≤ length answer.now }
     ensures { result ≡ row_count current answer.now }
 {
-    get16(answer, ROWS_AT) as usize
+    get::<u16>(answer, ROWS_AT) as usize
 }
 
 // Row k, counted from 0.
@@ -100,8 +100,8 @@ pub fn row_at(answer: &[u8], k: usize) -> Row
 {
     let at = ANSWER + ROW * k;
     Row {
-        identity: CellIdentity(get64(answer, at)),
-        count: Broadcasts(get16(answer, at + COUNT_IN_ROW_AT)),
-        content: get32(answer, at + CONTENT_IN_ROW_AT),
+        identity: CellIdentity(get::<u64>(answer, at)),
+        count: Broadcasts(get::<u16>(answer, at + COUNT_IN_ROW_AT)),
+        content: get::<u32>(answer, at + CONTENT_IN_ROW_AT),
     }
 }

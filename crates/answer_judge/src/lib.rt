@@ -9,7 +9,7 @@ ghost use Rattle.answer_judge.specs.Answerable.{answerable};
 ghost use Rattle.answer_judge.specs.OnePass.{answer_marked, right_head, right_told, follow};
 
 use answer::{kind, length_with, rows};
-use octets::{get8, get16, get32, get64};
+use octets::get;
 use rules::kind::{CANCEL_OR_KILL, WRITE_REPLACE};
 use rules::layout::{
     ANSWER, ANSWER_MARK, ANSWER_VERSION, CELL_END, CONTENT_IN_ROW_AT, COUNT_IN_ROW_AT, MOST_CELLS,
@@ -47,7 +47,8 @@ fn marked(answer: &[u8]) -> bool
     requires { answer_size current ≤ length answer.now }
     ensures { result ≡ answer_marked answer.now }
 {
-    (get32(answer, 0) == ANSWER_MARK * 256) & (get8(answer, VERSION_AT + 1) == ANSWER_VERSION)
+    (get::<u32>(answer, 0) == ANSWER_MARK * 256)
+        & (get::<u8>(answer, VERSION_AT + 1) == ANSWER_VERSION)
 }
 
 // `least` is the least NR CGI that may follow. A row's other numbers are read only behind its tests: read at once, all tests become one value, which
@@ -60,7 +61,7 @@ fn rows_follow(answer: &[u8], many: usize, counted: bool) -> bool
     let mut k: usize = 0;
     while k < many {
         let at = ANSWER + ROW * k;
-        let identity = get64(answer, at);
+        let identity = get::<u64>(answer, at);
         if identity < least {
             return false;
         }
@@ -81,11 +82,11 @@ fn told_right(answer: &[u8], at: usize, counted: bool) -> bool
     requires { at + row_size current ≤ length answer.now }
     ensures { result ≡ right_told counted (row_of current (gets answer.now at (row_size current))) }
 {
-    if get32(answer, at + CONTENT_IN_ROW_AT) != 0 {
+    if get::<u32>(answer, at + CONTENT_IN_ROW_AT) != 0 {
         return false;
     }
     if counted {
         return true;
     }
-    get16(answer, at + COUNT_IN_ROW_AT) == 0
+    get::<u16>(answer, at + COUNT_IN_ROW_AT) == 0
 }

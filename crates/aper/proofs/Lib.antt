@@ -1,3 +1,4 @@
+pub mod CriticalityLaws
 pub mod ElementLaws
 pub mod LengthLaws
 pub mod StepLaws

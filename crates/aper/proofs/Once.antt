@@ -2,22 +2,29 @@
 -- Each promise is an equation with what a format finds; an index within the bytes is settled by the bytes behind it.
 use mathlib.Core.Path.{◌≡◌, refl, sym, ap, ◌∙◌}
 use mathlib.Core.List.{List}
-use Rattle.std.specs.Prelude.{Option, Some, None}
+use Rattle.std.specs.Prelude.{Option, Some, None, Result, Ok, Err}
 use Prim.Native.Nat.{ℕ, ◌-◌, ◌≤◌}
 use native.Mathlib.Omega.{arith}
+use lib.Dec.{eqb}
+use mathlib.Core.Bool.{cond}
 use lib.ListN.{length, take, drop, length-drop}
 use lib.Seq.{length-take-le}
 use Rattle.octets.specs.Settled.{SettlesResult}
 use Rattle.octets.proofs.Once.{one-outcome}
 use Rattle.formats.proofs.SummaryLaws.{nothing-found, found-value, found-rest}
 use Rattle.aper.specs.Elements.{Element}
-use Rattle.aper.specs.Readers.{length_by, LengthLies, step_by, StepLies, ElementAt, run_by, RunLies}
+use Rattle.aper.proofs.CriticalityLaws.{criticality_small}
+use Rattle.aper.specs.Readers.{bits_of, CriticalityOf, length_by, LengthLies, step_by, StepLies, ElementAt, run_by, RunLies}
 use Rattle.aper.specs.declared.Length.{Length}
+use Rattle.aper.specs.declared.Criticality.{Criticality}
+use Rattle.aper.specs.declared.Criticality.TheVariants.{Reject, Ignore, Notify}
+use Rattle.aper.specs.declared.NoCriticality.{NoCriticality}
 use Rattle.aper.specs.declared.Element.{Element as Placed}
 use Rattle.aper.specs.declared.Extensions.{Extensions}
 use Rattle.aper.proofs.length_at.Reads as length_at
 use Rattle.aper.proofs.element_at.Reads as element_at_lem
 use Rattle.aper.proofs.given_at.Reads as given_at_lem
+use Rattle.aper.proofs.CriticalityTryFromU8.try_from.Reads as try_from
 
 -- the same bytes behind two indices
 pub same_index : (l : List ℕ) (a b : ℕ) → a ≤ length l → b ≤ length l → drop a l ≡ drop b l → a ≡ b
@@ -75,3 +82,22 @@ run_settled l None None p q e = refl
 
 pub given_at_once : SettlesResult given_at_lem.Learnt
 given_at_once κ args r s e f p q = run_settled _ r s p.lies q.lies (one-outcome p.says q.says)
+
+-- each criticality has bits of its own
+from_bits : ℕ → Criticality
+from_bits n = cond (eqb n 0) Reject (cond (eqb n 1) Ignore Notify)
+
+back : (c : Criticality) → from_bits (bits_of c) ≡ c
+unfolding from_bits
+back Reject = refl
+back Ignore = refl
+back Notify = refl
+
+criticality_settled : (n : ℕ) (x y : Result Criticality NoCriticality) → CriticalityOf n x → CriticalityOf n y → x ≡ y
+criticality_settled n (Ok c) (Ok d) p q = ap Ok (sym (back c) ∙ ap from_bits (p ∙ sym q) ∙ back d)
+criticality_settled n (Ok c) (Err y) p q = let small = criticality_small c in absurd (omega (arith, small, p, q))
+criticality_settled n (Err x) (Ok d) p q = let small = criticality_small d in absurd (omega (arith, small, p, q))
+criticality_settled n (Err x) (Err y) p q = refl
+
+pub try_from_once : SettlesResult try_from.Learnt
+try_from_once κ args r s e f p q = criticality_settled _ r s p q

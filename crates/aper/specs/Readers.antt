@@ -1,10 +1,13 @@
 -- What readers at an index of lent bytes answer, said by what a format finds at the front of the bytes from there on.
-use Rattle.std.specs.Prelude.{◌≡◌, Bool, List, ℕ, ◌-◌, ◌<◌, ◌≤◌, length, take, drop, Option, Some, None}
+use Rattle.std.specs.Prelude.{◌≡◌, Bool, List, ℕ, ◌-◌, ◌<◌, ◌≤◌, length, take, drop, Option, Some, None, Result, Ok, Err}
 use Rattle.rules.specs.Lists.{any}
 use Rattle.formats.specs.Summary.{summed}
 use Rattle.formats.specs.Format.{Found, nothing, found}
-use Rattle.aper.specs.Elements.{determinant, Element, plain, container, given, marked}
+use Rattle.aper.specs.Elements.{determinant, Element, plain, reject, criticalities, container, given, marked}
 use Rattle.aper.specs.declared.Length.{Length}
+use Rattle.aper.specs.declared.Criticality.{Criticality}
+use Rattle.aper.specs.declared.Criticality.TheVariants.{Reject, Ignore, Notify}
+use Rattle.aper.specs.declared.NoCriticality.{NoCriticality}
 use Rattle.aper.specs.declared.Element.{Element as Placed}
 use Rattle.aper.specs.declared.Extensions.{Extensions as Run}
 
@@ -31,6 +34,16 @@ StepLies l at None = Unit {0}
 pub record ElementAt (l : List ℕ) (at : ℕ) (r : Option Placed) : Type 0 where
   pub says : step_by l r ≡ plain.parse (drop at l)
   pub lies : StepLies l at r
+
+-- two bits as a criticality
+abbrev pub bits_of : Criticality → ℕ
+bits_of Reject = reject
+bits_of Ignore = 1
+bits_of Notify = 2
+
+abbrev pub CriticalityOf : ℕ → Result Criticality NoCriticality → Type 0
+CriticalityOf n (Ok c) = bits_of c ≡ n
+CriticalityOf n (Err e) = criticalities ≤ n
 
 -- a container, of which it is kept where it ends and whether one is marked reject
 abbrev pub run_by : List ℕ → Option Run → Found Bool

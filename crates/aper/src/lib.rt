@@ -2,7 +2,7 @@
 #![tactic(auto)]
 
 ghost use Rattle.std.specs.Prelude.{◌≡◌, ◌<◌, ◌≤◌, length};
-ghost use Rattle.aper.specs.Readers.{LengthAt, ElementAt, RunAt, GivenAt};
+ghost use Rattle.aper.specs.Readers.{LengthAt, ElementAt, CriticalityOf, RunAt, GivenAt};
 
 use octets::get;
 
@@ -13,13 +13,40 @@ pub struct Length {
     pub start: usize,
 }
 
-// An element: its id, its criticality, where its contents begin and where they end.
+// An element: its id, the two bits of its criticality, which are read of unknown elements alone, where its contents begin and where they end.
 #[derive(Clone, Copy)]
 pub struct Element {
     pub id: u16,
     pub criticality: u8,
     pub start: usize,
     pub end: usize,
+}
+
+// What becomes of an element that is not known.
+#[derive(Clone, Copy, PartialEq, Eq)]
+pub enum Criticality {
+    Reject,
+    Ignore,
+    Notify,
+}
+
+// The fourth value of two bits, which is no criticality.
+#[derive(Clone, Copy)]
+pub struct NoCriticality;
+
+impl TryFrom<u8> for Criticality {
+    type Error = NoCriticality;
+
+    ghost try_from_gives = { CriticalityOf };
+
+    fn try_from(bits: u8) -> Result<Self, NoCriticality> {
+        match bits {
+            0 => Ok(Criticality::Reject),
+            1 => Ok(Criticality::Ignore),
+            2 => Ok(Criticality::Notify),
+            _ => Err(NoCriticality),
+        }
+    }
 }
 
 // Extensions back to back: where they end, and whether one is marked reject.
@@ -111,10 +138,8 @@ fn extensions_at(s: &[u8], at: usize) -> Option<Extensions>
     let mut rejected = false;
     for _ in 0..last + 1 {
         let extension = element_at(s, next)?;
-        if CRITICALITIES <= extension.criticality {
-            return None;
-        }
-        rejected = rejected | (extension.criticality == REJECT);
+        let criticality = Criticality::try_from(extension.criticality).ok()?;
+        rejected = rejected | (criticality == Criticality::Reject);
         next = extension.end;
     }
     Some(Extensions {

@@ -7,7 +7,7 @@ ghost use Rattle.rules.specs.Table.{place_of, place_bytes, free_bytes};
 ghost use Rattle.rules.specs.InCell.{with_counts};
 ghost use Rattle.cell_read.specs.Places.{live_places, with_places, with_place, place_from, place_at, LiveAt, FreeAt, OnePlace, without};
 
-use octets::{put8, put16, put32};
+use octets::put;
 use rules::layout::{
     CELL, CONTENT_AT, HEAD, LIVE_AT, PERIOD_AT, PLACE, PLACE_SERIAL_AT, REQUESTED_AT, SENT_AT,
     SIB_AT, WAIT_AT,
@@ -28,15 +28,15 @@ pub fn set_counts(cell: &mut [u8], k: usize, counts: Counts)
     requires { LiveAt cell.old k }
     ensures { cell.new ≡ with_place cell.old k (with_counts (place_at cell.old k) counts.sent counts.wait) }
 {
-    put16(cell, HEAD + PLACE * k + SENT_AT, counts.sent.0);
-    put32(cell, HEAD + PLACE * k + WAIT_AT, counts.wait.0);
+    put(cell, HEAD + PLACE * k + SENT_AT, counts.sent.0);
+    put(cell, HEAD + PLACE * k + WAIT_AT, counts.wait.0);
 }
 
 pub fn set_wait(cell: &mut [u8], k: usize, wait: Seconds)
     requires { LiveAt cell.old k }
     ensures { cell.new ≡ with_place cell.old k (with_counts (place_at cell.old k) (place_at cell.old k).sent wait) }
 {
-    put32(cell, HEAD + PLACE * k + WAIT_AT, wait.0);
+    put(cell, HEAD + PLACE * k + WAIT_AT, wait.0);
 }
 
 // What is behind it moves down. Free places are zero, so they move like live ones.
@@ -72,14 +72,14 @@ pub fn place_bytes(place: Place) -> [u8; PLACE]
     ensures { result ≡ place_bytes current place }
 {
     let mut bytes = [0; PLACE];
-    put16(&mut bytes, 0, place.identifier);
-    put16(&mut bytes, PLACE_SERIAL_AT, place.serial);
-    put32(&mut bytes, CONTENT_AT, place.content);
-    put32(&mut bytes, PERIOD_AT, place.period.0);
-    put16(&mut bytes, REQUESTED_AT, place.requested.0);
-    put16(&mut bytes, SENT_AT, place.sent.0);
-    put32(&mut bytes, WAIT_AT, place.wait.0);
-    put8(&mut bytes, SIB_AT, place.sib);
-    put8(&mut bytes, LIVE_AT, LIVE);
+    put(&mut bytes, 0, place.identifier);
+    put(&mut bytes, PLACE_SERIAL_AT, place.serial);
+    put(&mut bytes, CONTENT_AT, place.content);
+    put(&mut bytes, PERIOD_AT, place.period.0);
+    put(&mut bytes, REQUESTED_AT, place.requested.0);
+    put(&mut bytes, SENT_AT, place.sent.0);
+    put(&mut bytes, WAIT_AT, place.wait.0);
+    put(&mut bytes, SIB_AT, place.sib);
+    put(&mut bytes, LIVE_AT, LIVE);
     bytes
 }

@@ -8,7 +8,7 @@ ghost use Rattle.rules.specs.Identity.{identity_number, tracking_item};
 ghost use Rattle.rules.specs.Table.{head_of, text_of};
 ghost use Rattle.cell_read.specs.Places.{live_places, Formed, place_at, LiveAt, index_of, HeadAreas};
 
-use octets::{get8, get16, get24, get32, get64};
+use octets::{get, get24};
 use rules::layout::{
     AREA, AREAS_AT, AREAS_USED_AT, CODE_AT, CONTENT_AT, HEAD, LIVE_AT, PERIOD_AT, PLACE, PLACES,
     REQUESTED_AT, SENT_AT, WAIT_AT,
@@ -29,7 +29,7 @@ pub fn is_live(cell: &[u8], k: usize) -> bool
     requires k_lt_places_per_cell { k < places_per_cell }
     ensures { result ≡ ltb k (length (live_places cell.now)) }
 {
-    get8(cell, HEAD + PLACE * k + LIVE_AT) != 0
+    get::<u8>(cell, HEAD + PLACE * k + LIVE_AT) != 0
 }
 
 // Identifier and serial number, side by side.
@@ -37,14 +37,14 @@ fn text(cell: &[u8], k: usize) -> u32
     requires { LiveAt cell.now k }
     ensures { result ≡ text_of (place_at cell.now k) }
 {
-    get32(cell, HEAD + PLACE * k)
+    get::<u32>(cell, HEAD + PLACE * k)
 }
 
 pub fn content(cell: &[u8], k: usize) -> u32
     requires { LiveAt cell.now k }
     ensures { result ≡ (place_at cell.now k).content }
 {
-    get32(cell, HEAD + PLACE * k + CONTENT_AT)
+    get::<u32>(cell, HEAD + PLACE * k + CONTENT_AT)
 }
 
 pub fn terms_of(cell: &[u8], k: usize) -> Terms
@@ -52,8 +52,8 @@ pub fn terms_of(cell: &[u8], k: usize) -> Terms
     ensures { (result.period ≡ (place_at cell.now k).period) × (result.requested ≡ (place_at cell.now k).requested) }
 {
     Terms {
-        period: Seconds(get32(cell, HEAD + PLACE * k + PERIOD_AT)),
-        requested: Broadcasts(get16(cell, HEAD + PLACE * k + REQUESTED_AT)),
+        period: Seconds(get::<u32>(cell, HEAD + PLACE * k + PERIOD_AT)),
+        requested: Broadcasts(get::<u16>(cell, HEAD + PLACE * k + REQUESTED_AT)),
     }
 }
 
@@ -61,14 +61,14 @@ pub fn sent(cell: &[u8], k: usize) -> Broadcasts
     requires { LiveAt cell.now k }
     ensures { result ≡ (place_at cell.now k).sent }
 {
-    Broadcasts(get16(cell, HEAD + PLACE * k + SENT_AT))
+    Broadcasts(get::<u16>(cell, HEAD + PLACE * k + SENT_AT))
 }
 
 pub fn wait(cell: &[u8], k: usize) -> Seconds
     requires { LiveAt cell.now k }
     ensures { result ≡ (place_at cell.now k).wait }
 {
-    Seconds(get32(cell, HEAD + PLACE * k + WAIT_AT))
+    Seconds(get::<u32>(cell, HEAD + PLACE * k + WAIT_AT))
 }
 
 // ---- the place of a text
@@ -103,7 +103,7 @@ pub fn identity(cell: &[u8]) -> CellIdentity
     requires { length cell.now ≡ cell_size current }
     ensures { identity_number result ≡ (head_of current (take (head_size current) cell.now)).identity }
 {
-    CellIdentity(get64(cell, 0))
+    CellIdentity(get::<u64>(cell, 0))
 }
 
 // The item that names the cell's tracking area.
@@ -120,7 +120,7 @@ pub fn areas_of(cell: &[u8]) -> Areas
     ensures { HeadAreas (take (head_size current) cell.now) result }
 {
     Areas {
-        used: get8(cell, AREAS_USED_AT),
+        used: get::<u8>(cell, AREAS_USED_AT),
         all: [
             get24(cell, AREAS_AT),
             get24(cell, AREAS_AT + AREA),

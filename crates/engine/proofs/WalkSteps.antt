@@ -81,8 +81,9 @@ module _ (q : Request) (items : List ℕ) {T A : List ℕ} {R most lt la : ℕ} 
       })
 
   -- a cell that is not reached
-  pub passed : reaches q.area items (cell_of current (cell_from t at)).head ≡ false → GoingOn q items T A R most lt la t a (at + cell_size current) out rows (left - 1)
-  passed e = let h = after_unreached q items (cell_from t at) e in skip go some h.0 h.1
+  pub passed : {at' left' : ℕ} → at' ≡ at + cell_size current → left' ≡ left - 1 → reaches q.area items (cell_of current (cell_from t at)).head ≡ false
+      → GoingOn q items T A R most lt la t a at' out rows left'
+  passed ea el e = let h = after_unreached q items (cell_from t at) e in rw (ea, el) (skip go some h.0 h.1)
 
   -- a cell that is reached, as its routine leaves it
   module _ (e : reaches q.area items (cell_of current (cell_from t at)).head ≡ true) where
@@ -102,12 +103,6 @@ module _ (q : Request) (items : List ℕ) {T A : List ℕ} {R most lt la : ℕ} 
 
     module _ {k m : ℕ} (ek : k ≡ cell_size current) (em : m ≡ length a - out) {c' o' : List ℕ} {n : ℕ}
         (s : Stepped (in_cell q (live_places (mid_of at k t))) (mid_of at k t) (mid_of out m a) c' o' (rows_per_cell q.kind) n) (same : length c' ≡ length (mid_of at k t)) where
-      pub stepped : GoingOn q items T A R most lt la (put_mid at k t c') (put_mid out m a o') (at + cell_size current) (out + row_size current * n) (rows + n) (left - 1)
-      stepped = rw ek (stepped_here m em c' o' n (rw ek at s) (rw ek at same))
-
-      -- the same without a row
-      pub stepped_silent : n ≤ 0 → GoingOn q items T A R most lt la (put_mid at k t c') (put_mid out m a o') (at + cell_size current) out rows (left - 1)
-      stepped_silent z =
-          let eo : out + row_size current * n ≡ out = omega arith in
-          let er : rows + n ≡ rows = omega arith in
-          rw (eo, er) at stepped
+      pub stepped : {at' out' left' : ℕ} → at' ≡ at + cell_size current → out' ≡ out + row_size current * n → left' ≡ left - 1
+          → GoingOn q items T A R most lt la (put_mid at k t c') (put_mid out m a o') at' out' (rows + n) left'
+      stepped ea eo el = rw (ea, eo, el, ek) (stepped_here m em c' o' n (rw ek at s) (rw ek at same))

@@ -8,7 +8,7 @@ ghost use Rattle.engine.specs.Walk.{Granted, is_idle};
 
 use crate::walk::walk;
 use answer::{length_with, put_head, room_for};
-use octets::get16;
+use octets::get;
 use record_read::{count, request};
 use rules::kind::WRITE_REPLACE;
 use rules::layout::CELLS_AT;
@@ -19,7 +19,7 @@ fn cells_of(table: &[u8]) -> usize
     requires { header_size ≤ length table.now }
     ensures { result ≡ cell_count table.now }
 {
-    get16(table, CELLS_AT) as usize
+    get::<u16>(table, CELLS_AT) as usize
 }
 
 // The first of the refusals 1 to 8 that applies.
@@ -39,10 +39,7 @@ fn verdict(table: &[u8], req: &[u8], room: usize) -> Result<(), Refusal>
 fn idle(request: Request) -> bool
     ensures { result ≡ is_idle request }
 {
-    if request.kind != WRITE_REPLACE {
-        return false;
-    }
-    starts_nothing(request)
+    request.kind == WRITE_REPLACE && starts_nothing(request)
 }
 
 // An accepted request: the number of rows. A start that the zero rules stop changes no cell.

@@ -17,12 +17,12 @@ use Rattle.rules.specs.Reply.{Row}
 use Rattle.rules.specs.declared.Seconds.{Seconds}
 use Rattle.rules.specs.declared.Broadcasts.{Broadcasts}
 use Rattle.rules.specs.declared.Place.{Place}
-use Rattle.rules.proofs.TestLaws.{by_test, one-most}
+use Rattle.rules.proofs.TestLaws.{by_test}
 use Rattle.rules.proofs.SecondLaws.{later-due}
 use Rattle.cell_read.specs.Places.{with_place, place_at}
 use Rattle.in_cell.specs.Second.{endings, ToAir, Aired}
 
-endings-one : (p : Place) → endings (p ∷ []) ≡ bool_byte (has_ended p)
+pub endings-one : (p : Place) → endings (p ∷ []) ≡ bool_byte (has_ended p)
 unfolding endings those flat_map
 endings-one p = by_test (has_ended p) (λ t. rw t) (λ t. rw t)
 
@@ -49,13 +49,12 @@ module _ (c out : List ℕ) (k n : ℕ) (to : ToAir c out k n) (sent : Broadcast
   unfolding with_counts has_ended
   after-ends = ap has_ended after ∙ rw e-requested
 
-  -- `last` is whether the last one was sent, and its byte 1 or 0
-  pub aired : (last : Bool) → last ≡ (not (eqb requested 0) && eqb sent.0 requested) → Aired c out k n c' out' (bool_byte last)
+  -- `last` is whether the last one was sent
+  pub aired : (last : Bool) → last ≡ (not (eqb requested 0) && eqb sent.0 requested) → Aired c out k n c' out' last
   unfolding cell_of
   aired last e-last =
       record {
         cell = e-cell ∙ rw after;
         row = e-out ∙ ap (λ (w : Row). sets out (row_size current * n) (row_bytes current w)) (row_same identity sent.0 content e-identity after-sent e-content);
-        ended = rw (e-last, ← after-ends) (sym (endings-one (later (place_at c k))));
-        one = one-most last;
+        ended = e-last ∙ sym after-ends;
       }

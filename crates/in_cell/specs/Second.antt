@@ -1,5 +1,5 @@
 -- One second in a cell, in two passes over its live places: what each function asks and leaves.
-use Rattle.std.specs.Prelude.{◌≡◌, true, not, List, [], ◌∷◌, map, ℕ, ◌+◌, ◌*◌, ◌≤◌, ◌<◌, length}
+use Rattle.std.specs.Prelude.{◌≡◌, Bool, true, not, List, map, ℕ, ◌+◌, ◌*◌, ◌≤◌, ◌<◌, length}
 use Rattle.std.proofs.lemmas.List.Edits.{sets}
 use Rattle.rules.specs.Lists.{those}
 use Rattle.rules.specs.Layout.{current, places_per_cell, row_size}
@@ -30,12 +30,11 @@ pub record ToAir (c out : List ℕ) (k n : ℕ) : Type 0 where
   pub few : n < places_per_cell
   pub room : row_size current * n + row_size current ≤ length out
 
--- place k was broadcast, row n says so, and r is 1 if that was the last time
-pub record Aired (c out : List ℕ) (k n : ℕ) (c' out' : List ℕ) (r : ℕ) : Type 0 where
+-- place k was broadcast, row n says so, and `last` is whether that was the last time
+pub record Aired (c out : List ℕ) (k n : ℕ) (c' out' : List ℕ) (last : Bool) : Type 0 where
   pub cell : c' ≡ with_place c k (later (place_at c k))
   pub row : out' ≡ sets out (row_size current * n) (row_bytes current (row_by (cell_of current c) (told_of (place_at c k))))
-  pub ended : r ≡ endings (later (place_at c k) ∷ [])
-  pub one : r ≤ 1
+  pub ended : last ≡ has_ended (later (place_at c k))
 
 -- every live place is a second later where it stood, those that have ended too
 pub record AllLater (c out c' out' : List ℕ) (rows gone : ℕ) : Type 0 where

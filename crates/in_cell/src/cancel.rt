@@ -24,11 +24,10 @@ pub fn failure_in_cell(cell: &mut [u8], out: &mut [u8]) -> usize
     ensures { Stepped (failure (live_places cell.old)) cell.old out.old cell.new out.new 1 result }
 {
     if is_live(cell, 0) {
-        report(cell, Broadcasts(0), out);
-        free_all(cell);
-        return 1;
+        restart_in_cell(cell, out)
+    } else {
+        0
     }
-    0
 }
 
 // The place with that text stops; identifier and serial number are one number. Places move only if it was found.

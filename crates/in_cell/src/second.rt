@@ -10,11 +10,11 @@ ghost use Rattle.in_cell.specs.Second.{going_on, ToAir, Aired, AllLater};
 use answer::{Row, put_row};
 use cell_change::{Counts, drop_place, set_counts, set_wait};
 use cell_read::{content, identity, is_live, sent, terms_of, wait};
-use rules::layout::{MOST_SENT, PLACES, ROW};
+use rules::layout::{PLACES, ROW};
 use rules::{Broadcasts, Seconds};
 
 // What the first pass leaves to be known: the rows written, and how many texts have ended.
-#[derive(Drop)]
+#[derive(Clone, Copy)]
 struct Pass {
     rows: usize,
     gone: usize,
@@ -38,32 +38,28 @@ fn all_later(cell: &mut [u8], out: &mut [u8]) -> Pass
 {
     let mut rows: usize = 0;
     let mut gone: usize = 0;
-    let mut k: usize = 0;
-    'places: while k < PLACES {
+    for k in 0..PLACES {
         if !is_live(cell, k) {
-            break 'places;
+            break;
         }
-        let here = k;
-        k += 1;
-        let left = wait(cell, here);
+        let left = wait(cell, k);
         if left.0 == 0 {
-            gone += air(cell, here, out, rows);
+            gone += air(cell, k, out, rows) as usize;
             rows += 1;
         } else {
-            set_wait(cell, here, one_less(left));
+            set_wait(cell, k, one_less(left));
         }
     }
     Pass { rows, gone }
 }
 
-// A broadcast of place k, with row n for it; 1 if it was the last one, else 0.
-fn air(cell: &mut [u8], k: usize, out: &mut [u8], n: usize) -> usize
+// A broadcast of place k, with row n for it; whether it was the last one.
+fn air(cell: &mut [u8], k: usize, out: &mut [u8], n: usize) -> bool
     requires { ToAir cell.old out.old k n }
     ensures { Aired cell.old out.old k n cell.new out.new result }
 {
     let terms = terms_of(cell, k);
-    let before = sent(cell, k);
-    let sent = one_more(before);
+    let sent = one_more(sent(cell, k));
     let wait = one_less(terms.period);
     let identity = identity(cell);
     let content = content(cell, k);
@@ -77,23 +73,17 @@ fn air(cell: &mut [u8], k: usize, out: &mut [u8], n: usize) -> usize
             content,
         },
     );
-    all_sent(terms.requested, sent) as usize
+    all_sent(terms.requested, sent)
 }
 
-// The places that have ended go; the rest close up.
+// The places that have ended go, the last first; the rest close up.
 fn close_up(cell: &mut [u8])
     requires { Formed cell.old }
     ensures { cell.new ≡ with_places cell.old (going_on (live_places cell.old)) }
 {
-    let mut k: usize = 0;
-    'places: while k < PLACES {
-        if !is_live(cell, k) {
-            break 'places;
-        }
-        if ended(cell, k) {
+    for k in (0..PLACES).rev() {
+        if is_live(cell, k) && ended(cell, k) {
             drop_place(cell, k);
-        } else {
-            k += 1;
         }
     }
 }
@@ -116,19 +106,11 @@ fn all_sent(requested: Broadcasts, sent: Broadcasts) -> bool
 fn one_more(sent: Broadcasts) -> Broadcasts
     ensures { result.0 ≡ (one_more sent).0 }
 {
-    if sent.0 < MOST_SENT {
-        Broadcasts(sent.0 + 1)
-    } else {
-        sent
-    }
+    Broadcasts(sent.0.saturating_add(1))
 }
 
 fn one_less(seconds: Seconds) -> Seconds
     ensures { result.0 ≡ (one_less seconds).0 }
 {
-    if 0 < seconds.0 {
-        Seconds(seconds.0 - 1)
-    } else {
-        seconds
-    }
+    Seconds(seconds.0.saturating_sub(1))
 }

@@ -1,11 +1,9 @@
 -- What the results of the surface's functions, with the buffers that they leave, say.
-use Rattle.std.specs.Prelude.{List, ℕ}
+use Rattle.std.specs.Prelude.{List, ℕ, Ok, Err}
 use Rattle.rules.specs.Refusals.{number_of, writing_number, writing_length, Writing}
 use Rattle.rules.specs.Applied.{Filled, ReadOutcome, Outcome}
 use Rattle.segments.specs.Segments.{Lies}
-use Rattle.wire.specs.MessageOutcome.{MessageOutcome}
-use Rattle.wire.specs.declared.Taking.{Taking}
-use Rattle.wire.specs.declared.Taking.TheVariants.{Taken, Untaken}
+use Rattle.wire.specs.MessageOutcome.{MessageOutcome, Taking}
 use Rattle.pws.specs.declared.PwsDone.{PwsDone}
 use Rattle.pws.specs.declared.PwsReading.{PwsReading}
 use Rattle.pws.specs.declared.PwsPart.{PwsPart}
@@ -29,8 +27,8 @@ abbrev pub lies : PwsPart → Lies
 lies p = record { number = p.number; buffer = p.buffer; start = p.start; length = p.length }
 
 abbrev pub message_by : Taking → PwsMessage
-message_by (Taken t n) = record { number = 0; transaction = t; length = n }
-message_by (Untaken x) = record { number = number_of x; transaction = 0; length = 0 }
+message_by (Ok r) = record { number = 0; transaction = r.transaction; length = r.length }
+message_by (Err x) = record { number = number_of x; transaction = 0; length = 0 }
 
 -- a record is left, or the answer in a response
 abbrev pub taken : PwsMessage → List ℕ → MessageOutcome

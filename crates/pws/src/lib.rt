@@ -3,13 +3,13 @@
 #![tactic(auto)]
 
 ghost use Rattle.std.specs.Prelude.{◌≡◌};
-ghost use Rattle.rules.specs.Applied.{no_request};
-ghost use Rattle.pws.specs.Surface.{done_by, message_by};
+ghost use Rattle.rules.specs.Applied.{read_by};
+ghost use Rattle.pws.specs.Surface.{done_by, message_by, read_to};
 ghost use Rattle.pws.specs.Promises.{BuildPromise, ConvertPromise, ApplyPromise, ReadPromise, WritePromise, ItemPromise, SegmentPromise, PackPromise, ReadCancelPromise, WriteResponsePromise, ReadResponsePromise};
 
-use rules::{Broadcasts, Refusal, Request, Seconds};
+use rules::{Refusal, Request, writing_length, writing_number};
 use segments::read::Part;
-use wire::Taking;
+use wire::Taken;
 
 // 0 and the length written, or a refusal's number and 0.
 #[repr(C)]
@@ -48,54 +48,86 @@ pub struct PwsMessage {
     pub length: usize,
 }
 
-fn done(writing: Result<usize, Refusal>) -> PwsDone
-    ensures { result ≡ done_by writing }
-{
-    PwsDone {
-        number: writing.number(),
-        length: writing.length(),
+// What whoever fills a buffer answers.
+impl From<Result<usize, Refusal>> for PwsDone {
+    ghost from_gives = { λ writing done. done ≡ done_by writing };
+
+    fn from(writing: Result<usize, Refusal>) -> Self {
+        PwsDone {
+            number: writing_number(writing),
+            length: writing_length(writing),
+        }
+    }
+}
+
+// What the reader of records answers.
+impl From<Result<(Request, usize), Refusal>> for PwsReading {
+    ghost from_gives = { λ reading told. read_to told ≡ read_by reading };
+
+    fn from(reading: Result<(Request, usize), Refusal>) -> Self {
+        match reading {
+            Ok((request, items)) => PwsReading {
+                number: 0,
+                request,
+                items,
+            },
+            Err(refusal) => PwsReading {
+                number: refusal.number(),
+                request: Request::default(),
+                items: 0,
+            },
+        }
+    }
+}
+
+// What a reader of messages answers.
+impl From<Result<Taken, Refusal>> for PwsMessage {
+    ghost from_gives = { λ taking message. message ≡ message_by taking };
+
+    fn from(taking: Result<Taken, Refusal>) -> Self {
+        match taking {
+            Ok(taken) => PwsMessage {
+                number: 0,
+                transaction: taken.transaction as u32,
+                length: taken.length,
+            },
+            Err(cause) => PwsMessage {
+                number: cause.number(),
+                transaction: 0,
+                length: 0,
+            },
+        }
     }
 }
 
 pub fn pws_build(heads: &[u8], table: &mut [u8]) -> PwsDone
     ensures { BuildPromise heads.now table.old result table.new }
 {
-    done(table_build::build(heads, table))
+    table_build::build(heads, table).into()
 }
 
 pub fn pws_convert(old: &[u8], table: &mut [u8]) -> PwsDone
     ensures { ConvertPromise old.now table.old result table.new }
 {
-    done(table_convert::convert(old, table))
+    table_convert::convert(old, table).into()
 }
 
 pub fn pws_apply(table: &mut [u8], req: &[u8], answer: &mut [u8]) -> PwsDone
     ensures { ApplyPromise table.old req.now answer.old result table.new answer.new }
 {
-    done(engine::apply::apply(table, req, answer))
+    engine::apply::apply(table, req, answer).into()
 }
 
 pub fn pws_read(req: &[u8]) -> PwsReading
     ensures { ReadPromise req.now result }
 {
-    match record_read::read(req) {
-        Ok((request, items)) => PwsReading {
-            number: 0,
-            request,
-            items,
-        },
-        Err(refusal) => PwsReading {
-            number: refusal.number(),
-            request: nothing(),
-            items: 0,
-        },
-    }
+    record_read::read(req).into()
 }
 
 pub fn pws_write(request: Request, items: &[u64], buffer: &mut [u8]) -> PwsDone
     ensures { WritePromise request items.now buffer.old result buffer.new }
 {
-    done(record_write::write(request, items, buffer))
+    record_write::write(request, items, buffer).into()
 }
 
 pub fn pws_item(req: &[u8], k: usize) -> u64
@@ -132,57 +164,23 @@ pub fn pws_segment(first: &[u8], more: &[u8], k: usize) -> PwsPart
 pub fn pws_pack(bytes: &[u8], lengths: &[u64], list: &mut [u8]) -> PwsDone
     ensures { PackPromise bytes.now lengths.now list.old result list.new }
 {
-    done(segments::pack::pack(bytes, lengths, list))
-}
-
-fn message(taking: Taking) -> PwsMessage
-    ensures { result ≡ message_by taking }
-{
-    match taking {
-        Taking::Taken(transaction, length) => PwsMessage {
-            number: 0,
-            transaction: transaction as u32,
-            length,
-        },
-        Taking::Untaken(cause) => PwsMessage {
-            number: cause.number(),
-            transaction: 0,
-            length: 0,
-        },
-    }
+    segments::pack::pack(bytes, lengths, list).into()
 }
 
 pub fn pws_read_cancel(bytes: &[u8], buffer: &mut [u8]) -> PwsMessage
     ensures { ReadCancelPromise bytes.now buffer.old result buffer.new }
 {
-    message(wire_cancel::read_cancel(bytes, buffer))
+    wire_cancel::read_cancel(bytes, buffer).into()
 }
 
 pub fn pws_write_response(answer: &[u8], transaction: u8, bytes: &mut [u8]) -> PwsDone
     ensures { WriteResponsePromise answer.now transaction bytes.old result bytes.new }
 {
-    done(response_write::write_response(answer, transaction, bytes))
+    response_write::write_response(answer, transaction, bytes).into()
 }
 
 pub fn pws_read_response(bytes: &[u8], answer: &mut [u8]) -> PwsMessage
     ensures { ReadResponsePromise bytes.now answer.old result answer.new }
 {
-    message(response_read::read_response(bytes, answer))
-}
-
-// No request: what the reader returns with a refusal.
-fn nothing() -> Request
-    ensures { result ≡ no_request }
-{
-    Request {
-        kind: 0,
-        flags: 0,
-        area: 0,
-        identifier: 0,
-        serial: 0,
-        content: 0,
-        period: Seconds(0),
-        requested: Broadcasts(0),
-        sib: 0,
-    }
+    response_read::read_response(bytes, answer).into()
 }

@@ -1,32 +1,61 @@
 -- What the reader finds in a record's bytes is what the rules say of them: fields at their offsets, mark and version, and fields that are zero.
 -- By the law of fields; several fields that are zero are one run of zeros.
+use Rattle.std.specs.Prelude.{Ok}
 use mathlib.Core.Path.{◌≡◌, refl, sym, ◌∙◌}
 use mathlib.Core.Bool.{Bool, true, false, ◌&&◌, ◌||◌, and_assoc, and-true, and-false, and-or_distrib_left}
 use mathlib.Core.List.{List, [], ◌∷◌, map}
 use Prim.Native.Nat.{ℕ, zero, suc, ◌+◌, ◌*◌, ◌≤◌}
 use native.Mathlib.Omega.{arith}
-use lib.Dec.{eqb}
+use lib.Dec.{eqb, leb}
 use lib.ListN.{length, drop, get_or, length-map}
 use Rattle.octets.proofs.PiecesLaws.{length-pieces}
 use Rattle.octets.proofs.FieldsLaws.{field_at, field-within}
 use Rattle.octets.proofs.MarkLaws.{mark_and_version}
-use borrow.Author.Tests.{le-leb, lt-leb, ne_eqb}
+use borrow.Author.Tests.{leb-true, le-leb, lt-leb, ne_eqb}
 use Rattle.octets.specs.Runs.{Bytes, gets, pieces}
 use Rattle.octets.specs.Numbers.{be}
 use Rattle.octets.specs.Fields.{offset, field_of}
-use Rattle.rules.specs.Layout.{current, record_fields, record_size, item_size, record_mark}
-use Rattle.rules.specs.Record.{takes_version, identifier_to_sib, cancel_zeros, notified, request_of, record_marked}
+use Rattle.rules.specs.Layout.{current, mark_field, record_fields, record_size, item_size, record_mark}
+use Rattle.rules.specs.Record.{takes_version, version_in, item_count, zero_byte, identifier_to_sib, cancel_zeros, notified, request_of, record_marked}
+use Rattle.rules.specs.Refusals.{record_verdict}
+use Rattle.rules.proofs.TestLaws.{both}
+use Rattle.rules.proofs.AcceptedRecordLaws.{record-accepted}
 use Rattle.rules.proofs.LayoutLaws.{record-size}
 use Rattle.rules.proofs.ZerosLaws.{zeros-none, zeros-more, zeros_unless, be-zero, zeros-run}
 use Rattle.rules.specs.Lists.{every, zeros}
+
+-- ---- long enough
+
+-- marked bytes are long enough for a record's fields
+pub marked_long : (r : List ℕ) → record_marked current r ≡ true → record_size ≤ length r
+unfolding record_marked
+marked_long r e =
+    let h = both (leb record_size (length r) && eqb (field_of record_fields mark_field r) record_mark) (takes_version current (version_in r)) e in
+    leb-true record_size (length r) (both (leb record_size (length r)) (eqb (field_of record_fields mark_field r) record_mark) h.0).0
+
+-- and so are those that are an accepted record
+pub accepted_long : (r : List ℕ) → record_verdict current r ≡ Ok tt → record_size ≤ length r
+accepted_long r e = (record-accepted current r e).long
 
 -- ---- fields
 
 pub record-field : (r : List ℕ) → record_size ≤ length r → (k : ℕ) → field_of record_fields k r ≡ be (gets r (offset record_fields k) (get_or record_fields k 0))
 record-field r h k = field_at record_fields k r (omega (arith, h, record-size, field-within record_fields k))
 
+pub version_read : (r : List ℕ) → record_size ≤ length r → version_in r ≡ be (gets r 3 2)
+unfolding offset
+version_read r h = record-field r h 1
+
+pub count_read : (r : List ℕ) → record_size ≤ length r → item_count r ≡ be (gets r 24 2)
+unfolding offset
+count_read r h = record-field r h 12
+
+pub zero_read : (r : List ℕ) → record_marked current r ≡ true → zero_byte r ≡ be (gets r 23 1)
+unfolding offset
+zero_read r e = record-field r (marked_long r e) 11
+
 -- the fields of a request
-pub request-read : (r : List ℕ) → record_size ≤ length r → {kind flags area identifier serial content period requested sib : ℕ}
+pub request_read : (r : List ℕ) → record_size ≤ length r → {kind flags area identifier serial content period requested sib : ℕ}
     → kind ≡ be (gets r 5 1) → flags ≡ be (gets r 6 1) → area ≡ be (gets r 7 1) → identifier ≡ be (gets r 8 2) → serial ≡ be (gets r 10 2)
     → content ≡ be (gets r 12 4) → period ≡ be (gets r 16 4) → requested ≡ be (gets r 20 2) → sib ≡ be (gets r 22 1)
     → record {
@@ -42,7 +71,7 @@ pub request-read : (r : List ℕ) → record_size ≤ length r → {kind flags a
     }
     ≡ request_of r
 unfolding request_of offset
-request-read r h k f a i s c p n b =
+request_read r h k f a i s c p n b =
     let at = record-field r h in
     rw (k, at 2, f, at 3, a, at 4, i, at 5, s, at 6, c, at 7, p, at 8, n, at 9, b, at 10)
 
@@ -58,10 +87,10 @@ either_taken (suc (suc (suc n))) =
     rw (lt-leb x 2 (omega arith), ne_eqb x 1 (λ e. omega (arith, e)), ne_eqb x 2 (λ e. omega (arith, e)), and-false)
 
 -- the mark with the version's upper byte, then its lower byte: 1 or 2
-pub mark-taken : (r : List ℕ) → Bytes r → record_size ≤ length r
+pub mark_taken : (r : List ℕ) → Bytes r → record_size ≤ length r
     → eqb (be (gets r 0 4)) (record_mark * 256) && (eqb (be (gets r 4 1)) 1 || eqb (be (gets r 4 1)) 2) ≡ record_marked current r
 unfolding record_marked offset
-mark-taken r b h =
+mark_taken r b h =
     let mark = eqb (be (gets r 0 3)) record_mark in
     let version : ℕ = be (gets r 3 2) in
     and-or_distrib_left (eqb (be (gets r 0 4)) (record_mark * 256)) (eqb (be (gets r 4 1)) 1) (eqb (be (gets r 4 1)) 2)
@@ -103,9 +132,9 @@ wide-zero r =
 
 module _ (r : List ℕ) (h : record_size ≤ length r) where
   -- from the identifier to the SIB kind
-  pub text-zeros : eqb (be (gets r 8 8)) 0 && eqb (be (gets r 15 8)) 0 ≡ zeros (identifier_to_sib (request_of r))
+  pub text_zeros : eqb (be (gets r 8 8)) 0 && eqb (be (gets r 15 8)) 0 ≡ zeros (identifier_to_sib (request_of r))
   unfolding request_of offset
-  text-zeros =
+  text_zeros =
       let f = record-field r h in
       wide-zero r ∙ six_zero (be (gets r 8 2)) (be (gets r 10 2)) (be (gets r 12 4)) (be (gets r 16 4)) (be (gets r 20 2)) (be (gets r 22 1)) ∙ rw (f 5, f 6, f 7, f 8, f 9, f 10)
 

@@ -1,4 +1,3 @@
 mod FieldReads
-mod TestOrder
 pub mod Items
 pub mod Once

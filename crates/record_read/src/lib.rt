@@ -13,7 +13,7 @@ ghost use Rattle.rules.specs.Record.{cancel_zeros, identifier_to_sib, item_count
 ghost use Rattle.rules.specs.Refusals.{record_verdict, request_verdict};
 
 use crate::mark::marked;
-use octets::{any64, get8, get16, get32, get64};
+use octets::{any64, get};
 use record_judge::judged;
 use rules::layout::{
     AREA_AT, COUNT_AT, FLAGS_AT, IDENTIFIER_AT, ITEM, KIND_AT, LONGEST_PERIOD, LONGEST_PERIOD_1,
@@ -23,37 +23,40 @@ use rules::layout::{
 use rules::{Broadcasts, Refusal, Request, Seconds};
 
 // The fields of a record.
+#[tactic(auto, using(crate::proofs::FieldReads::request_read))]
 pub fn request(req: &[u8]) -> Request
     requires { record_size ≤ length req.now }
     ensures { result ≡ request_of req.now }
 {
     Request {
-        kind: get8(req, KIND_AT),
-        flags: get8(req, FLAGS_AT),
-        area: get8(req, AREA_AT),
-        identifier: get16(req, IDENTIFIER_AT),
-        serial: get16(req, SERIAL_AT),
-        content: get32(req, RECORD_CONTENT_AT),
-        period: Seconds(get32(req, RECORD_PERIOD_AT)),
-        requested: Broadcasts(get16(req, RECORD_REQUESTED_AT)),
-        sib: get8(req, RECORD_SIB_AT),
+        kind: get(req, KIND_AT),
+        flags: get(req, FLAGS_AT),
+        area: get(req, AREA_AT),
+        identifier: get(req, IDENTIFIER_AT),
+        serial: get(req, SERIAL_AT),
+        content: get(req, RECORD_CONTENT_AT),
+        period: Seconds(get(req, RECORD_PERIOD_AT)),
+        requested: Broadcasts(get(req, RECORD_REQUESTED_AT)),
+        sib: get(req, RECORD_SIB_AT),
     }
 }
 
 // The count of items that a record gives.
+#[tactic(auto, using(crate::proofs::FieldReads::count_read))]
 pub fn count(req: &[u8]) -> usize
     requires { record_size ≤ length req.now }
     ensures { result ≡ item_count req.now }
 {
-    get16(req, COUNT_AT) as usize
+    get::<u16>(req, COUNT_AT) as usize
 }
 
 // The longest period that a record may ask for: its own version says.
+#[tactic(auto, using(crate::proofs::FieldReads::version_read))]
 fn longest_asked(req: &[u8]) -> Seconds
     requires { record_size ≤ length req.now }
     ensures { result ≡ longest_asked req.now }
 {
-    if get16(req, VERSION_AT) == VERSION_1 as u16 {
+    if get::<u16>(req, VERSION_AT) == VERSION_1 as u16 {
         return Seconds(LONGEST_PERIOD_1);
     }
     Seconds(LONGEST_PERIOD)
@@ -62,21 +65,23 @@ fn longest_asked(req: &[u8]) -> Seconds
 // ---- 5, 6 and 7, asked of the bytes
 
 // "identifier to SIB" are zero: 15 bytes, in two reads that share one.
+#[tactic(auto, using(crate::proofs::FieldReads::text_zeros))]
 fn no_text(req: &[u8]) -> bool
     requires { record_size ≤ length req.now }
     ensures { result ≡ zeros (identifier_to_sib (request_of req.now)) }
 {
-    (get64(req, IDENTIFIER_AT) == 0) & (get64(req, RECORD_SIB_AT + 1 - ITEM) == 0)
+    (get::<u64>(req, IDENTIFIER_AT) == 0) & (get::<u64>(req, RECORD_SIB_AT + 1 - ITEM) == 0)
 }
 
 // The fields are zero that a cancel leaves out: content and period at once, and so identifier and serial number.
+#[tactic(auto, using(crate::proofs::FieldReads::cancelled_zeros))]
 fn cancel_zeros(req: &[u8]) -> bool
     requires { record_size ≤ length req.now }
     ensures { result ≡ zeros (cancel_zeros (request_of req.now)) }
 {
-    (get64(req, RECORD_CONTENT_AT) == 0)
-        & (get8(req, RECORD_SIB_AT) == 0)
-        & (request(req).notified() | (get32(req, IDENTIFIER_AT) == 0))
+    (get::<u64>(req, RECORD_CONTENT_AT) == 0)
+        & (get::<u8>(req, RECORD_SIB_AT) == 0)
+        & (request(req).notified() | (get::<u32>(req, IDENTIFIER_AT) == 0))
 }
 
 // The first of the refusals 5, 6 and 7 that applies to the fields and n items. The items are joined first: with no loop between it and the
@@ -97,6 +102,7 @@ fn fields_judged(req: &[u8], n: usize) -> Result<(), Refusal>
 }
 
 // The first of the refusals 3 to 7 that applies to any bytes.
+#[tactic(auto, using(crate::proofs::FieldReads::marked_long, crate::proofs::FieldReads::zero_read), unfolding(rules::specs::Refusals::record_verdict, rules::specs::Refusals::request_verdict, rules::specs::Record::items_of))]
 pub fn verdict(req: &[u8]) -> Result<(), Refusal>
     ensures { result ≡ record_verdict current req.now }
 {
@@ -110,13 +116,14 @@ pub fn verdict(req: &[u8]) -> Result<(), Refusal>
     if req.len() != RECORD + ITEM * n {
         return Err(Refusal::RecordLength);
     }
-    if get8(req, ZERO_AT) != 0 {
+    if get::<u8>(req, ZERO_AT) != 0 {
         return Err(Refusal::RecordFields);
     }
     fields_judged(req, n)
 }
 
 // The fields and the count of items, or why there are none.
+#[tactic(auto, using(crate::proofs::FieldReads::accepted_long), unfolding(rules::specs::Applied::read_of, rules::specs::Applied::reading))]
 pub fn read(req: &[u8]) -> Result<(Request, usize), Refusal>
     ensures { read_by result ≡ read_of req.now }
 {
@@ -125,6 +132,7 @@ pub fn read(req: &[u8]) -> Result<(Request, usize), Refusal>
 }
 
 // The item number k of a record, 0 where the record ends before it.
+#[tactic(auto, unfolding(rules::specs::Applied::item_at))]
 pub fn item(req: &[u8], k: usize) -> u64
     ensures { result ≡ item_at req.now k }
 {
@@ -132,7 +140,7 @@ pub fn item(req: &[u8], k: usize) -> u64
         return 0;
     }
     if k < (req.len() - RECORD) / ITEM {
-        return get64(req, RECORD + ITEM * k);
+        return get::<u64>(req, RECORD + ITEM * k);
     }
     0
 }

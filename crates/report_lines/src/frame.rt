@@ -5,7 +5,7 @@ ghost use Rattle.octets.specs.Runs.{gets};
 ghost use Rattle.rules.specs.Layout.{most_cells};
 ghost use Rattle.report_lines.specs.Framing.{count_size, cells_named, own_size, frame_of};
 
-use octets::get16;
+use octets::get;
 use record_read::count;
 use rules::layout::{ITEM, MOST_CELLS, MOST_ITEMS, RECORD};
 
@@ -15,7 +15,7 @@ pub fn cells(held: &[u8]) -> Option<usize>
     ensures value { result ≡ cells_named held.now }
     ensures fit_a_table { IfSome result (λ n. n ≤ most_cells) }
 {
-    match get16(held, 0) as usize {
+    match get::<u16>(held, 0) as usize {
         n @ 1..=MOST_CELLS => Some(n),
         _ => None,
     }

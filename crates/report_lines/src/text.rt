@@ -1,9 +1,7 @@
 // The lines of the report. Each method adds its text behind what is there.
-ghost use Rattle.std.specs.Prelude.{◌≡◌, ◌+◌, ◌*◌, ◌≤◌, ◌<◌, length, drop};
-ghost use mathlib.Core.List.{[], ◌∷◌, map, flat_map};
-ghost use Rattle.octets.specs.Runs.{pieces};
+ghost use Rattle.std.specs.Prelude.{◌≡◌, ◌+◌, ◌*◌, ◌≤◌, ◌<◌, length};
 ghost use Rattle.rules.specs.Layout.{current, answer_size, row_size};
-ghost use Rattle.rules.specs.Answer.{row_of, row_count, answer_of};
+ghost use Rattle.rules.specs.Answer.{row_count, answer_of};
 ghost use Rattle.answer.specs.Rows.{row_said};
 ghost use Rattle.report_lines.specs.Text.{glyph as Text·glyph, digits, most_places, hex_places, number_text, cell_text, no_text, ok_text, row_text, longest_row, answer_text};
 
@@ -12,6 +10,7 @@ use rules::CellIdentity;
 
 const HEX_PLACES: usize = 15;
 
+// Stays: no plainer is `char::from_digit(d as u32, 16).unwrap() as u8`.
 #[tactic(auto, unfolding(crate::specs::Text::glyph))]
 fn glyph(d: u64) -> u8
     requires { d < 16 }
@@ -25,6 +24,8 @@ fn glyph(d: u64) -> u8
 }
 
 // The last 15 hex digits of n, the most significant first.
+// Stays: `put_no` and `put_answer` promise their text outright, which may not change, and `write!(self, "{n:015x}")` promises it only
+// where it returns `Ok`, which nothing says that it does.
 fn hex(n: u64) -> [u8; HEX_PLACES]
     ensures { result ≡ digits 16 hex_places n }
 {
@@ -45,10 +46,10 @@ pub struct Text<'a> {
 }
 
 impl Text<'_> {
-    ghost use Rattle.report_lines.specs.Told.{Tells};
+    ghost use Rattle.report_lines.specs.Told.{HasRoom, Tells};
 
     fn put(&mut self, bytes: &[u8])
-        requires { self.old.at + length bytes.now ≤ length self.old.out.now }
+        requires { HasRoom self.old (length bytes.now) }
         ensures { Tells self.old bytes.now self.new }
     {
         let end = self.at + bytes.len();
@@ -58,7 +59,7 @@ impl Text<'_> {
 
     // A number of 32 bits in decimal, and what ends it.
     fn put_number(&mut self, n: u32, end: u8)
-        requires { self.old.at + (most_places + 1) ≤ length self.old.out.now }
+        requires { HasRoom self.old (most_places + 1) }
         ensures tells { Tells self.old (number_text n end) self.new }
         ensures room_taken { self.new.at ≤ self.old.at + (most_places + 1) }
     {
@@ -67,7 +68,7 @@ impl Text<'_> {
     }
 
     fn put_cell(&mut self, identity: CellIdentity)
-        requires { self.old.at + (hex_places + 1) ≤ length self.old.out.now }
+        requires { HasRoom self.old (hex_places + 1) }
         ensures tells { Tells self.old (cell_text identity.0) self.new }
         ensures room_taken { self.new.at ≤ self.old.at + (hex_places + 1) }
     {
@@ -76,7 +77,7 @@ impl Text<'_> {
     }
 
     pub fn put_no(&mut self, number: u32)
-        requires { self.old.at + (most_places + 4) ≤ length self.old.out.now }
+        requires { HasRoom self.old (most_places + 4) }
         ensures tells { Tells self.old (no_text number) self.new }
         ensures room_taken { self.new.at ≤ self.old.at + (most_places + 4) }
     {
@@ -85,7 +86,7 @@ impl Text<'_> {
     }
 
     fn put_ok(&mut self, kind: u8, rows: u32)
-        requires { self.old.at + (most_places + most_places + 5) ≤ length self.old.out.now }
+        requires { HasRoom self.old (most_places + most_places + 5) }
         ensures tells { Tells self.old (ok_text kind rows) self.new }
         ensures room_taken { self.new.at ≤ self.old.at + (most_places + most_places + 5) }
     {
@@ -95,7 +96,7 @@ impl Text<'_> {
     }
 
     fn put_row(&mut self, row: Row)
-        requires { self.old.at + longest_row ≤ length self.old.out.now }
+        requires { HasRoom self.old longest_row }
         ensures tells { Tells self.old (row_text (row_said row)) self.new }
         ensures room_taken { self.new.at ≤ self.old.at + longest_row }
     {
@@ -104,27 +105,17 @@ impl Text<'_> {
         self.put_number(row.content, b'\n');
     }
 
-    // The rows of an answer, a line each.
-    fn put_rows(&mut self, answer: &[u8], rows: usize)
-        requires room_for_text { self.old.at + longest_row * rows ≤ length self.old.out.now }
-        requires rows_there { answer_size current + row_size current * rows ≤ length answer.now }
-        ensures tells { Tells self.old (flat_map row_text (map (row_of current) (pieces (row_size current) rows (drop (answer_size current) answer.now)))) self.new }
-        ensures room_taken { self.new.at ≤ self.old.at + longest_row * rows }
-    {
-        for k in 0..rows {
-            self.put_row(row_at(answer, k));
-        }
-    }
-
-    // An answer: "ok KIND ROWS" and its rows.
+    // An answer: "ok KIND ROWS", and a line for each of its rows.
     pub fn put_answer(&mut self, answer: &[u8])
         requires rows_there { answer_size current + row_size current * row_count current answer.now ≤ length answer.now }
-        requires room_for_text { self.old.at + (most_places + most_places + 5 + longest_row * row_count current answer.now) ≤ length self.old.out.now }
+        requires room_for_text { HasRoom self.old (most_places + most_places + 5 + longest_row * row_count current answer.now) }
         ensures tells { Tells self.old (answer_text (answer_of current answer.now)) self.new }
         ensures room_taken { self.new.at ≤ self.old.at + (most_places + most_places + 5 + longest_row * row_count current answer.now) }
     {
         let many = rows(answer);
         self.put_ok(kind(answer), many as u32);
-        self.put_rows(answer, many);
+        for k in 0..many {
+            self.put_row(row_at(answer, k));
+        }
     }
 }

@@ -3,11 +3,12 @@
 use mathlib.Core.Path.{◌≡◌, refl}
 use mathlib.Core.Bool.{Bool, true, false, true≢false, false≢true, cond}
 use mathlib.Core.List.{List, [], ◌∷◌, ◌++◌, flat_map}
-use Prim.Native.Nat.{ℕ, zero, suc, ◌+◌, ◌-◌, ◌≤◌, ◌<◌}
+use Prim.Native.Nat.{ℕ, zero, suc, ◌+◌, ◌-◌, ◌<◌}
 use native.Mathlib.Omega.{arith}
 use lib.ListN.{length, drop, length-append, length-drop}
-use Rattle.rules.specs.Layout.{most_cells}
 use Rattle.report_turns.specs.Turns.{Program, begun, step, Spoken, stops, goes, reads, finds_the_end}
+use Rattle.report_turns.specs.Buffers.{Few}
+use Rattle.report_turns.specs.declared.Next.TheVariants.{Wait}
 use Rattle.report_turns.specs.Pieces.{joined, AlwaysSpoken}
 use Rattle.report_turns.proofs.StepLaws.{Does, stopped, waited, went, step_does}
 use Rattle.report_turns.proofs.TurnedLaws.{step_small}
@@ -20,10 +21,10 @@ to_do ended l pieces = length l + length (joined pieces) + length pieces + cond 
 
 abbrev Speaks : ℕ → Type 0
 Speaks fuel =
-    (ended : Bool) (p : Program) (l : List ℕ) (pieces : List (List ℕ)) → p.cells ≤ most_cells → (ended ≡ true → pieces ≡ []) → to_do ended l pieces < fuel
+    (ended : Bool) (p : Program) (l : List ℕ) (pieces : List (List ℕ)) → Few p.cells → (ended ≡ true → pieces ≡ []) → to_do ended l pieces < fuel
     → (text : List ℕ) × Spoken ended p l pieces text
 
-awaits : (k : ℕ) → Speaks k → (p : Program) (l : List ℕ) (pieces : List (List ℕ)) → p.cells ≤ most_cells → to_do false l pieces < suc k → (step false p l).waits ≡ true
+awaits : (k : ℕ) → Speaks k → (p : Program) (l : List ℕ) (pieces : List (List ℕ)) → Few p.cells → to_do false l pieces < suc k → (step false p l).next ≡ Wait
     → (text : List ℕ) × Spoken false p l pieces text
 unfolding flat_map
 awaits k speaks p l [] few h w =
@@ -36,20 +37,20 @@ awaits k speaks p l (piece ∷ pieces) few h w =
     (r.0, reads w r.1)
 
 by_step : (k : ℕ) → Speaks k → (ended : Bool) (p : Program) (l : List ℕ) (pieces : List (List ℕ))
-    → p.cells ≤ most_cells → (ended ≡ true → pieces ≡ []) → to_do ended l pieces < suc k
+    → Few p.cells → (ended ≡ true → pieces ≡ []) → to_do ended l pieces < suc k
     → Does ended p (step ended p l) → (text : List ℕ) × Spoken ended p l pieces text
-by_step k speaks ended p l pieces few none h (stopped s w) = ((step ended p l).said, stops s w)
+by_step k speaks ended p l pieces few none h (stopped s) = ((step ended p l).said, stops s)
 by_step k speaks true p l pieces few none h (waited e w) = absurd (true≢false e)
 by_step k speaks false p l pieces few none h (waited e w) = awaits k speaks p l pieces few h (rw w)
-by_step k speaks ended p l pieces few none h (went s w t) =
+by_step k speaks ended p l pieces few none h (went s t) =
     let small = step_small p few l ended in
     let d : length (drop (step ended p l).taken l) ≡ length l - (step ended p l).taken = length-drop (step ended p l).taken l in
     let r = speaks ended (step ended p l).program (drop (step ended p l).taken l) pieces small.few none (omega (arith, small.within)) in
-    ((step ended p l).said ++ r.0, goes s w r.1)
+    ((step ended p l).said ++ r.0, goes s r.1)
 
 speak : (fuel : ℕ) → Speaks fuel
 speak zero ended p l pieces few none h = absurd (omega arith)
 speak (suc k) ended p l pieces few none h = by_step k (speak k) ended p l pieces few none h (step_does p l ended)
 
 pub always_spoken : AlwaysSpoken
-always_spoken pieces = speak (suc (to_do false [] pieces)) false begun [] pieces (omega arith) (λ t. absurd (false≢true t)) (omega arith)
+always_spoken pieces = speak (suc (to_do false [] pieces)) false begun [] pieces tt (λ t. absurd (false≢true t)) (omega arith)

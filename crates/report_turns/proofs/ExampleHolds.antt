@@ -1,11 +1,11 @@
 -- Document 01's example of the program holds. What its calls leave is a sample of `rules`; what is said of that is computed here.
 -- An input that is cut into these records is told as they are served, one behind the other: `served-said`.
+use Rattle.std.specs.Prelude.{Some}
 use mathlib.Core.Path.{◌≡◌, refl}
-use mathlib.Core.Bool.{true, false}
+use mathlib.Core.Bool.{true}
 use mathlib.Core.List.{List, [], ◌∷◌, ◌++◌, flat_map}
 use Prim.Native.Nat.{ℕ, zero, suc, ◌≤◌}
 use native.Mathlib.Omega.{arith}
-use lib.Dec.{eqb}
 use lib.ListN.{length, take, drop, replicate}
 use Rattle.octets.specs.Runs.{pieces}
 use Rattle.octets.specs.Numbers.{be}
@@ -23,7 +23,7 @@ use Rattle.report_turns.proofs.RequestLaws.{said-none}
 -- the input is these records, each framed by its own n
 abbrev Cut : List ℕ → List (List ℕ) → Type 0
 Cut l [] = length l ≡ 0
-Cut l (r ∷ rs) = (eqb (length l) 0 ≡ false) × (take (frame_of l true) l ≡ r) × Cut (drop (frame_of l true) l) rs
+Cut l (r ∷ rs) = (frame_of l true ≡ Some (length r)) × (take (length r) l ≡ r) × Cut (drop (length r) l) rs
 
 -- what is said of requests that leave this, in an answer buffer
 abbrev said_all : List ℕ → List (List ℕ × List ℕ) → List ℕ
@@ -40,7 +40,7 @@ served-said k t a l [] (x ∷ xs) h s c = absurd s
 served-said k t a l (r ∷ rs) [] h s c = absurd s
 served-said zero t a l (r ∷ rs) (x ∷ xs) h s c = absurd (omega arith)
 served-said (suc k) t a l (r ∷ rs) (x ∷ xs) h s c =
-    rw (c.0, c.1, s.0, served-said k x.0 (x.1 ++ drop (length x.1) a) (drop (frame_of l true) l) rs xs (omega arith) s.1 c.2)
+    rw (c.0, c.1, s.0, served-said k x.0 (x.1 ++ drop (length x.1) a) (drop (length r) l) rs xs (omega arith) s.1 c.2)
 
 example-cut : Cut (flat_map (λ r. r) example) example
 unfolding flat_map be numbers field_of own_size frame_of

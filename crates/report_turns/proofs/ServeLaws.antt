@@ -2,7 +2,7 @@
 -- By the two cases of the verdict, and of what the library returned.
 use Rattle.std.specs.Prelude.{Ok, Err}
 use mathlib.Core.Path.{◌≡◌, refl, sym, ap, subst, ◌∙◌}
-use mathlib.Core.Bool.{Bool, false}
+use mathlib.Core.Bool.{false}
 use mathlib.Core.List.{List}
 use Prim.Native.Nat.{ℕ, ◌+◌, ◌*◌, ◌≤◌}
 use native.Mathlib.Omega.{arith}
@@ -20,9 +20,14 @@ use Rattle.rules.proofs.AppliedLaws.{answer-fits, applied-answer, applied-writte
 use Rattle.rules.proofs.LegalAnswerLaws.{legal-answer}
 use Rattle.rules.proofs.AnsweredLaws.{applied-answer-legal}
 use Rattle.rules.proofs.OutcomeLaws.{number_positive}
-use Rattle.report_lines.specs.Text.{answer_text, no_text, said_of, Said}
+use Rattle.report_lines.specs.Text.{answer_text, no_text, said_of}
 use Rattle.report_lines.specs.Framing.{stops_at}
 use Rattle.report_turns.specs.Report.{answer_room}
+use Rattle.report_lines.specs.Told.{Tells}
+use Rattle.report_lines.specs.declared.text.Text.{Text}
+use Rattle.report_turns.specs.Next.{next_behind}
+use Rattle.report_turns.specs.declared.Next.{Next}
+use Rattle.report_turns.specs.declared.Next.TheVariants.{Go}
 use Rattle.report_turns.specs.Serve.{Served}
 use Rattle.report_turns.proofs.RoomLaws.{room_of}
 
@@ -59,28 +64,27 @@ rows_fit l k = omega (arith, l.most, l.whole, k, room_of most_cells)
 
 -- ---- what is told
 
-module _ (t r a t' a' : List ℕ) (out out' : List ℕ) (at end : ℕ) (x : Writing) (e : outcome_by x t' a' ≡ applied current t r a) where
-  pub served-ok : (n : ℕ) → x ≡ Ok n → Said out at (answer_text (answer_of current (take n a'))) out' end
-      → Served t r a out at t' a' out' (record { end = end; stops = false })
+module _ (t r a t' a' : List ℕ) (s s' : Text) (x : Writing) (e : outcome_by x t' a' ≡ applied current t r a) where
+  pub served-ok : (n : ℕ) → x ≡ Ok n → Tells s (answer_text (answer_of current (take n a'))) s' → Served t r a s t' a' s' Go
   unfolding said_of stops_at
-  served-ok n w s =
+  served-ok n w told =
       let o : outcome_by (Ok n) t' a' ≡ applied current t r a = rw w at e in
       record {
         table = ap (λ (y : Outcome). y.table) o;
         answer = ap (λ (y : Outcome). y.answer) o;
-        text = rw (← o) s;
-        stop = rw (← o);
+        text = rw (← o) told;
+        comes = rw (← o);
       }
 
-  pub served-no : (y : Refusal) (number : ℕ) (stops : Bool) → x ≡ Err y → number ≡ number_of y → stops ≡ stops_at number
-      → Said out at (no_text number) out' end → Served t r a out at t' a' out' (record { end = end; stops = stops })
+  pub served-no : (y : Refusal) (number : ℕ) (next : Next) → x ≡ Err y → number ≡ number_of y → next ≡ next_behind number
+      → Tells s (no_text number) s' → Served t r a s t' a' s' next
   unfolding said_of
-  served-no y number stops w k p s =
+  served-no y number next w k p told =
       let o : outcome_by (Err y) t' a' ≡ applied current t r a = rw w at e in
       let z : eqb (number_of y) 0 ≡ false = ne_eqb (number_of y) 0 (λ (h : number_of y ≡ 0). omega (arith, number_positive y)) in
       record {
         table = ap (λ (y : Outcome). y.table) o;
         answer = ap (λ (y : Outcome). y.answer) o;
-        text = rw (← o, z, ← k) s;
-        stop = rw (← o, ← k) p;
+        text = rw (← o, z, ← k) told;
+        comes = rw (← o, ← k) p;
       }

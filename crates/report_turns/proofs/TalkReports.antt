@@ -1,5 +1,6 @@
 -- Whatever `turn` returns and leaves under its promise, call after call, is what the definition says turn after turn.
 -- Along the calls, with what each leaves (CalledLaws): what was written, and what is to be said behind the text that is there.
+use Rattle.std.specs.Prelude.{Option}
 use mathlib.Core.Path.{◌≡◌, refl, sym, ap, ◌∙◌}
 use mathlib.Core.Bool.{Bool, true, false, true≢false}
 use mathlib.Core.List.{List, [], ◌∷◌, ◌++◌, append_assoc, append-nil}
@@ -8,6 +9,7 @@ use lib.ListN.{take, drop}
 use Rattle.report_turns.specs.Turns.{Program, Step, step, Spoken, stops as spoken_stops, goes as spoken_goes, reads as spoken_reads, finds_the_end as spoken_end}
 use Rattle.report_turns.specs.Buffers.{program_in, held_in}
 use Rattle.report_turns.specs.Talk.{Called, Fed, Talk, stops, goes, writes, reads, finds_the_end, TalkReports}
+use Rattle.report_turns.specs.declared.Next.TheVariants.{Go, Wait, Stop}
 use Rattle.report_turns.specs.declared.Stand.{Stand}
 use Rattle.report_turns.proofs.StepLaws.{Does, stopped, waited, went, step_does}
 use Rattle.report_turns.proofs.CalledLaws.{turn_of, program_of, held_after, text-after, program-after}
@@ -18,12 +20,12 @@ use Rattle.report_turns.proofs.CutAnywhere.{cut_anywhere}
 respoken : {e f : Bool} {p q : Program} {l m : List ℕ} {pieces : List (List ℕ)} {rest : List ℕ} → e ≡ f → p ≡ q → l ≡ m → Spoken e p l pieces rest → Spoken f q m pieces rest
 respoken d e f s = rw (← d, ← e, ← f) s
 
-reads_spoken : (e : Bool) (p : Program) (l piece : List ℕ) (pieces : List (List ℕ)) (rest : List ℕ) → e ≡ false → (step e p l).waits ≡ true
+reads_spoken : (e : Bool) (p : Program) (l piece : List ℕ) (pieces : List (List ℕ)) (rest : List ℕ) → e ≡ false → (step e p l).next ≡ Wait
     → Spoken false p (l ++ piece) pieces rest → Spoken e p l (piece ∷ pieces) rest
 reads_spoken true p l piece pieces rest f w s = absurd (true≢false f)
 reads_spoken false p l piece pieces rest f w s = spoken_reads w s
 
-ends_spoken : (e : Bool) (p : Program) (l rest : List ℕ) → e ≡ false → (step e p l).waits ≡ true → Spoken true p l [] rest → Spoken e p l [] rest
+ends_spoken : (e : Bool) (p : Program) (l rest : List ℕ) → e ≡ false → (step e p l).next ≡ Wait → Spoken true p l [] rest → Spoken e p l [] rest
 ends_spoken true p l rest f w s = absurd (true≢false f)
 ends_spoken false p l rest f w s = spoken_end w s
 
@@ -36,18 +38,18 @@ module _ {s : Stand} {input t a out : List ℕ} {s' : Stand} {t' a' out' : List 
   abbrev l : List ℕ
   l = held_in s input
 
-  stops-behind : (pieces : List (List ℕ)) → s'.stops ≡ true → SaidBehind s input t a out pieces (take s'.at out')
+  stops-behind : (pieces : List (List ℕ)) → s'.next ≡ Stop → SaidBehind s input t a out pieces (take s'.at out')
   stops-behind pieces e = by (step_does (program_of c) l s.ended)
     where
       by : Does s.ended (program_of c) (turn_of c) → SaidBehind s input t a out pieces (take s'.at out')
-      by (stopped f w) = ((turn_of c).said, spoken_stops f w, text-after c)
-      by (waited f w) = absurd (true≢false (sym e ∙ c.did.stops ∙ ap (λ (y : Step). y.stops) w))
-      by (went f w k) = absurd (true≢false (sym e ∙ c.did.stops ∙ f))
+      by (stopped f) = ((turn_of c).said, spoken_stops f, text-after c)
+      by (waited f w) = let z : Stop ≡ Wait = sym e ∙ c.did.next ∙ ap (λ (y : Step). y.next) w in cc
+      by (went f k) = let z : Stop ≡ Go = sym e ∙ c.did.next ∙ f in cc
 
   -- the turn went on: its text stands behind what was there, and what is said behind both follows
-  goes_spoken : (pieces : List (List ℕ)) (rest : List ℕ) → s'.stops ≡ false → s'.waits ≡ false → Spoken s'.ended (program_in s'.cells t' a') (held_in s' input) pieces rest
+  goes_spoken : (pieces : List (List ℕ)) (rest : List ℕ) → s'.next ≡ Go → Spoken s'.ended (program_in s'.cells t' a') (held_in s' input) pieces rest
       → Spoken s.ended (program_of c) l pieces ((turn_of c).said ++ rest)
-  goes_spoken pieces rest e w r = spoken_goes (sym c.did.stops ∙ e) (sym c.did.waits ∙ w) (respoken c.did.ended (program-after c) (held_after c) r)
+  goes_spoken pieces rest e r = spoken_goes (sym c.did.next ∙ e) (respoken c.did.ended (program-after c) (held_after c) r)
 
   behind : (rest : List ℕ) → take s'.at out' ++ rest ≡ take s.at out ++ ((turn_of c).said ++ rest)
   behind rest = ap (λ (y : List ℕ). y ++ rest) (text-after c) ∙ append_assoc (take s.at out) (turn_of c).said rest
@@ -55,21 +57,21 @@ module _ {s : Stand} {input t a out : List ℕ} {s' : Stand} {t' a' out' : List 
   -- the turn waited: nothing was said or done
   record Waited : Type 0 where
     open_still : s.ended ≡ false
-    waits_there : (turn_of c).waits ≡ true
+    waits_there : (turn_of c).next ≡ Wait
     same-program : program_in s'.cells t' a' ≡ program_of c
     same-held : held_in s' input ≡ l
     no-text : take s'.at out' ≡ take s.at out
 
-  did-wait : s'.waits ≡ true → Waited
+  did-wait : s'.next ≡ Wait → Waited
   did-wait e = by (step_does (program_of c) l s.ended)
     where
       by : Does s.ended (program_of c) (turn_of c) → Waited
-      by (stopped f w) = absurd (true≢false (sym e ∙ c.did.waits ∙ w))
-      by (went f w k) = absurd (true≢false (sym e ∙ c.did.waits ∙ w))
+      by (stopped f) = let z : Wait ≡ Stop = sym e ∙ c.did.next ∙ f in cc
+      by (went f k) = let z : Wait ≡ Go = sym e ∙ c.did.next ∙ f in cc
       by (waited f w) =
           record {
             open_still = f;
-            waits_there = ap (λ (y : Step). y.waits) w;
+            waits_there = ap (λ (y : Step). y.next) w;
             same-program = program-after c ∙ ap (λ (y : Step). y.program) w;
             same-held = held_after c ∙ ap (λ (y : Step). drop y.taken l) w;
             no-text = text-after c ∙ ap (λ (y : Step). take s.at out ++ y.said) w ∙ append-nil (take s.at out);
@@ -78,7 +80,7 @@ module _ {s : Stand} {input t a out : List ℕ} {s' : Stand} {t' a' out' : List 
   fed_spoken : (w : Waited) (piece input' : List ℕ) (over : Bool) (s'' : Stand) (pieces : List (List ℕ)) (rest : List ℕ) → Fed s' input piece over s'' input'
       → Spoken s''.ended (program_in s''.cells t' a') (held_in s'' input') pieces rest → Spoken over (program_of c) (l ++ piece) pieces rest
   fed_spoken w piece input' over s'' pieces rest f r =
-      respoken f.ended (ap (λ (n : ℕ). program_in n t' a') f.cells ∙ w.same-program) (f.held ∙ ap (λ (y : List ℕ). y ++ piece) w.same-held) r
+      respoken f.ended (ap (λ (n : Option ℕ). program_in n t' a') f.cells ∙ w.same-program) (f.held ∙ ap (λ (y : List ℕ). y ++ piece) w.same-held) r
 
   fed_text : (w : Waited) (piece input' : List ℕ) (over : Bool) (s'' : Stand) (text rest : List ℕ) → Fed s' input piece over s'' input' → text ≡ take s''.at out' ++ rest
       → take s'.at out' ++ text ≡ take s.at out ++ rest
@@ -87,12 +89,12 @@ module _ {s : Stand} {input t a out : List ℕ} {s' : Stand} {t' a' out' : List 
 
 talk_said : {s : Stand} {input t a out : List ℕ} {pieces : List (List ℕ)} {text : List ℕ} → Talk s input t a out pieces text → SaidBehind s input t a out pieces text
 talk_said {pieces} (stops c e) = stops-behind c pieces e
-talk_said {pieces} (goes c e w next) =
+talk_said {pieces} (goes c e next) =
     let r = talk_said next in
-    ((turn_of c).said ++ r.0, goes_spoken c pieces r.0 e w r.1, r.2 ∙ behind c r.0)
-talk_said {pieces} (writes {s'} {out'} c e w next) =
+    ((turn_of c).said ++ r.0, goes_spoken c pieces r.0 e r.1, r.2 ∙ behind c r.0)
+talk_said {pieces} (writes {s'} {out'} c e next) =
     let r = talk_said next in
-    ((turn_of c).said ++ r.0, goes_spoken c pieces r.0 e w r.1, ap (λ (y : List ℕ). take s'.at out' ++ y) r.2 ∙ behind c r.0)
+    ((turn_of c).said ++ r.0, goes_spoken c pieces r.0 e r.1, ap (λ (y : List ℕ). take s'.at out' ++ y) r.2 ∙ behind c r.0)
 talk_said {s} {input} (reads {s'} {s''} {out'} {piece} {input'} {pieces} {text} c e f next) =
     let r = talk_said next in
     let w = did-wait c e in

@@ -1,4 +1,5 @@
 pub mod Report
+pub mod Next
 pub mod Serve
 pub mod Turns
 pub mod Pieces

@@ -5,9 +5,11 @@
 ghost use Rattle.std.specs.Prelude.{◌≡◌, length};
 ghost use Rattle.report_turns.specs.Buffers.{Standing, Turned, ToTake, Stepped, program_in};
 ghost use Rattle.report_turns.specs.Talk.{started};
+ghost use Rattle.report_turns.specs.Next.{pauses as Next·pauses};
 ghost use Rattle.report_turns.specs.Turns.{step};
 
 use heads::open_table;
+use report_lines::text::Text;
 use requests::serve_next;
 use rules::layout::{MOST_CELLS, PLACES};
 
@@ -15,29 +17,52 @@ mod heads;
 mod requests;
 mod serve;
 
+// What comes next: another turn, a read, or the end.
+#[derive(Clone, Copy)]
+pub enum Next {
+    Go,
+    Wait,
+    Stop,
+}
+
+impl Next {
+    // Whoever waits for the text would wait in vain behind a read or the end.
+    fn pauses(self) -> bool
+        ensures { result ≡ Next·pauses self }
+    {
+        match self {
+            Next::Go => false,
+            Next::Wait | Next::Stop => true,
+        }
+    }
+}
+
 // Where the program stands in the buffers that it is lent: the bytes at hand in the input, the end of the text that is not yet
-// written, the cells of its table (0 before there is one), and what comes next: the text is written, more is read, or neither.
-#[derive(Drop)]
+// written, the cells of its table, once there is one, and what comes next, once the text is written if it has to be.
+#[derive(Clone, Copy)]
 pub struct Stand {
-    pub cells: usize,
+    pub cells: Option<usize>,
     pub from: usize,
     pub to: usize,
     pub at: usize,
     pub ended: bool,
-    pub waits: bool,
-    pub stops: bool,
+    pub next: Next,
     pub writes: bool,
 }
 
-// What one turn did: the cells of the table then, the bytes that it took, the end of the text, and whether it waits for more input or
-// stops.
-#[derive(Drop)]
+// The bytes at hand, and whether the input has ended behind them.
+#[derive(Clone, Copy)]
+pub struct Held<'a> {
+    pub bytes: &'a [u8],
+    pub ended: bool,
+}
+
+// What one turn did: the cells of the table then, the bytes that it took, and what comes next.
+#[derive(Clone, Copy)]
 pub struct Took {
-    pub cells: usize,
+    pub cells: Option<usize>,
     pub bytes: usize,
-    pub end: usize,
-    pub waits: bool,
-    pub stops: bool,
+    pub next: Next,
 }
 
 // The text of one request is never longer: a first line of 25 letters and 38 for each place of each cell (specs/Serve, most_text).
@@ -48,33 +73,32 @@ pub fn start() -> Stand
     ensures { result ≡ started }
 {
     Stand {
-        cells: 0,
+        cells: None,
         from: 0,
         to: 0,
         at: 0,
         ended: false,
-        waits: false,
-        stops: false,
+        next: Next::Go,
         writes: false,
     }
 }
 
+// Stays: a struct of the lent buffers is no plainer. `turn` alone would make one, and `one_turn(held, cells, &mut Lent { table, answer, text })`
+// would hand `open_table` an answer's buffer, which it may not touch.
 fn one_turn(
-    held: &[u8],
-    ended: bool,
-    cells: usize,
+    held: Held,
+    cells: Option<usize>,
     table: &mut [u8],
     answer: &mut [u8],
-    out: &mut [u8],
-    at: usize,
+    text: &mut Text,
 ) -> Took
-    requires { ToTake cells (length table.old) (length answer.old) (length out.old) at }
-    ensures { Stepped (step ended (program_in cells table.old answer.old) held.now) table.old answer.old out.old at result table.new answer.new out.new }
+    requires { ToTake cells (length table.old) (length answer.old) (length text.old.out.now) text.old.at }
+    ensures { Stepped (step held.entry.ended (program_in cells table.old answer.old) held.entry.bytes.now) table.old answer.old text.old result table.new answer.new text.new }
 {
-    if cells == 0 {
-        return open_table(held, ended, table, out, at);
+    match cells {
+        None => open_table(held, table, text),
+        Some(cells) => serve_next(held, cells, table, answer, text),
     }
-    serve_next(held, ended, cells, table, answer, out, at)
 }
 
 // The text is written where the next request's might not fit behind it, and before whoever waits for it has to wait for more input.
@@ -82,17 +106,19 @@ pub fn turn(s: Stand, input: &[u8], table: &mut [u8], answer: &mut [u8], out: &m
     requires { Standing s (length input.now) (length table.old) (length answer.old) (length out.old) }
     ensures { Turned s input.now table.old answer.old out.old result table.new answer.new out.new }
 {
-    let from = s.from;
-    let to = s.to;
-    let took = one_turn(&input[from..to], s.ended, s.cells, table, answer, out, s.at);
+    let held = Held {
+        bytes: &input[s.from..s.to],
+        ended: s.ended,
+    };
+    let mut text = Text { out, at: s.at };
+    let took = one_turn(held, s.cells, table, answer, &mut text);
+    let room = text.out.len() - text.at;
     Stand {
         cells: took.cells,
-        from: from + took.bytes,
-        to,
-        at: took.end,
-        ended: s.ended,
-        waits: took.waits,
-        stops: took.stops,
-        writes: took.waits | took.stops | (out.len() - took.end < MOST_TEXT),
+        from: s.from + took.bytes,
+        at: text.at,
+        next: took.next,
+        writes: took.next.pauses() | (room < MOST_TEXT),
+        ..s
     }
 }

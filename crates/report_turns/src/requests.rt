@@ -1,52 +1,44 @@
 // A turn once there is a table: the request at the front of the bytes at hand, or nothing yet.
-ghost use Rattle.std.specs.Prelude.{length, ◌≡◌};
+ghost use Rattle.std.specs.Prelude.{length, Some};
 ghost use Rattle.report_turns.specs.Buffers.{ToTake, Stepped, program_in};
 ghost use Rattle.report_turns.specs.Turns.{serves};
 
-use crate::Took;
 use crate::serve::serve;
+use crate::{Held, Next, Took};
 use answer::room_for;
 use report_lines::frame::frame;
+use report_lines::text::Text;
 use rules::kind::ONE_SECOND;
 use rules::layout::{CELL, HEADER};
 
 // What lies behind the parts that a table of so many cells asks for stays as it is.
 pub fn serve_next(
-    held: &[u8],
-    ended: bool,
+    held: Held,
     cells: usize,
     table: &mut [u8],
     answer: &mut [u8],
-    out: &mut [u8],
-    at: usize,
+    text: &mut Text,
 ) -> Took
-    requires to_take { ToTake cells (length table.old) (length answer.old) (length out.old) at }
-    requires table_open { cells ≡ 0 → ⊥ }
-    ensures { Stepped (serves ended (program_in cells table.old answer.old) held.now) table.old answer.old out.old at result table.new answer.new out.new }
+    requires { ToTake (Some cells) (length table.old) (length answer.old) (length text.old.out.now) text.old.at }
+    ensures { Stepped (serves held.entry.ended (program_in (Some cells) table.old answer.old) held.entry.bytes.now) table.old answer.old text.old result table.new answer.new text.new }
 {
-    let size = frame(held, ended);
-    if size == 0 {
+    let Some(size) = frame(held.bytes, held.ended) else {
         return Took {
-            cells,
+            cells: Some(cells),
             bytes: 0,
-            end: at,
-            waits: !ended,
-            stops: ended,
+            next: if held.ended { Next::Stop } else { Next::Wait },
         };
-    }
+    };
     let room = room_for(ONE_SECOND, cells);
-    let turn = serve(
+    let next = serve(
         &mut table[..HEADER + CELL * cells],
-        &held[..size],
+        &held.bytes[..size],
         &mut answer[..room],
-        out,
-        at,
+        text,
     );
     Took {
-        cells,
+        cells: Some(cells),
         bytes: size,
-        end: turn.end,
-        waits: false,
-        stops: turn.stops,
+        next,
     }
 }

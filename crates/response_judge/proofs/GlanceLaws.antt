@@ -1,5 +1,6 @@
 -- A response that is a transaction identifier alone, or it and a list of items without extensions: where its bytes say so, its elements are walked over in one or
 -- two turns, and nothing is behind them.
+use Rattle.std.specs.Prelude.{Some}
 use mathlib.Core.Path.{◌≡◌, refl, sym, ap, ◌∙◌}
 use mathlib.Core.Bool.{Bool, true, false, ◌&&◌}
 use mathlib.Core.List.{List}
@@ -15,7 +16,6 @@ use Rattle.octets.proofs.RunsLaws.{gets_eq, gets-gets}
 use Rattle.octets.proofs.NumbersLaws.{be-gets_lt}
 use Rattle.rules.proofs.TestLaws.{both}
 use Rattle.aper.specs.Readers.{ElementAt}
-use Rattle.aper.specs.declared.Step.TheVariants.{One}
 use Rattle.aper.proofs.HeadLaws.{short-element}
 use Rattle.wire.specs.Messages.{the_transaction, transaction_id, cells_id}
 use Rattle.wire.specs.MessageTree.{contents_by}
@@ -23,11 +23,10 @@ use Rattle.wire.specs.Readers.{Tells, PlainList}
 use Rattle.wire.specs.declared.Message.{Message}
 use Rattle.wire.specs.declared.Message.TheVariants.{CancelRequest, CancelResponse, WriteReplaceResponse}
 use Rattle.wire.specs.declared.Heard.TheVariants.{Transaction, Cells}
+use Rattle.wire.specs.declared.Marks.{Marks}
 use Rattle.wire.proofs.FixedLaws.{transaction-there}
 use Rattle.wire.proofs.HearLaws.{transaction-tells, beside_tells, cells_tell}
 use Rattle.wire_judge.specs.Readers.{nothing_seen, turn_of, TurnAt, WalkedOver}
-use Rattle.wire_judge.specs.declared.Turn.TheVariants.{Next}
-use Rattle.wire_judge.specs.declared.Walk.TheVariants.{Whole}
 use Rattle.wire_judge.proofs.TurnLaws.{turn-kept}
 use Rattle.wire_judge.proofs.ElementsLaws.{Going, walk_start, turn_on, walk-whole}
 use Rattle.response_judge.specs.Met.{seen_of, alone_by, FrontAt, Fronted}
@@ -35,7 +34,7 @@ use Rattle.response_judge.specs.Met.{seen_of, alone_by, FrontAt, Fronted}
 -- ---- the front
 
 -- the two bytes of a transaction identifier behind its head
-number-told : (l : List ℕ) → Bytes l → 9 ≤ length l → be (gets l 7 1) ≡ 0 → Tells (contents_by CancelRequest the_transaction) (take 2 (drop 7 l)) (Transaction (be (gets l 8 1)))
+number-told : (l : List ℕ) → Bytes l → 9 ≤ length l → be (gets l 7 1) ≡ 0 → Tells (contents_by CancelRequest the_transaction) (take 2 (drop 7 l)) (Some (Transaction (be (gets l 8 1))))
 number-told l bytes long zero = transaction-there (take 2 (drop 7 l)) two 0 (sym zero ∙ held_at 0 (omega arith)) refl (be (gets l 8 1)) (held_at 1 (omega arith)) (be-gets_lt 1 8 l bytes)
   where
     two : length (take 2 (drop 7 l)) ≡ 2
@@ -78,22 +77,25 @@ module _ (m : Message) (l : List ℕ) (front : FrontAt l) (number : ℕ) (here :
   begun : Going m l elements 3 nothing_seen
   begun = walk_start m l (be (gets l 0 1)) (omega (arith, front.long)) refl front.blank elements many
 
-  first_met : TurnAt m l 3 nothing_seen (Next (seen_of (alone_by number transaction_id 0 0 true)) 9)
+  first_met : TurnAt m l 3 nothing_seen 9 (Some (seen_of (alone_by number transaction_id 0 0 true)))
   unfolding alone_by nothing_seen turn_of
-  first_met = rw here (turn-kept m l 3 nothing_seen begun.lies transaction_id front.criticality 7 9 front.read (Transaction (be (gets l 8 1))) (transaction-tells m (take 2 (drop 7 l)) transaction_id (Transaction (be (gets l 8 1))) refl front.tells))
+  first_met = rw here (turn-kept m l 3 nothing_seen begun.lies transaction_id front.criticality 7 9 front.read (Some (Transaction (be (gets l 8 1)))) (transaction-tells m (take 2 (drop 7 l)) transaction_id (Some (Transaction (be (gets l 8 1)))) refl front.tells))
 
   then : 0 < elements → Going m l (elements - 1) 9 (seen_of (alone_by number transaction_id 0 0 true))
-  then some = turn_on m l begun some _ 9 first_met
+  then some = turn_on m l begun some refl _ 9 first_met
 
-  pub identifier-alone : elements ≡ 1 → length l ≡ 9 → WalkedOver m l (Whole (seen_of (alone_by number transaction_id 0 0 true)))
+  pub identifier-alone : elements ≡ 1 → length l ≡ 9 → WalkedOver m l (Some (seen_of (alone_by number transaction_id 0 0 true)))
   identifier-alone one all = walk-whole m l (then (omega arith)) (omega arith) (sym all)
 
-  module _ (two : elements ≡ 2) (id criticality start end : ℕ) (read : ElementAt l 9 (One id criticality start end)) (is : id ≡ cells_id m) (r : ℕ) (few : r < 2) (list : PlainList m (take (end - start) (drop start l)) r) where
-    second_met : TurnAt m l 9 (seen_of (alone_by number transaction_id 0 0 true)) (Next (seen_of (alone_by number id start end (eqb r 1))) end)
+  module _ (two : elements ≡ 2) (id criticality start end : ℕ) (read : ElementAt l 9 (Some (record { id = id; criticality = criticality; start = start; end = end }))) (is : id ≡ cells_id m) (r : Marks) (list : PlainList m (take (end - start) (drop start l)) (Some r)) where
+    abbrev held : List ℕ
+    held = take (end - start) (drop start l)
+
+    second_met : TurnAt m l 9 (seen_of (alone_by number transaction_id 0 0 true)) end (Some (seen_of (alone_by number id start end r.ascends)))
     unfolding alone_by turn_of
     second_met =
-        let turn = turn-kept m l 9 (seen_of (alone_by number transaction_id 0 0 true)) (then (omega arith)).lies id criticality start end read (Cells false false (eqb r 1)) (beside_tells m (take (end - start) (drop start l)) id (Cells false false (eqb r 1)) (λ e. not-it m (sym is ∙ e)) (cells_tell m (take (end - start) (drop start l)) id (Cells false false (eqb r 1)) is (list few))) in
-        rw (ap (ltb transaction_id) is ∙ behind-it m) at turn
+        let turn = turn-kept m l 9 (seen_of (alone_by number transaction_id 0 0 true)) (then (omega arith)).lies id criticality start end read (Some (Cells r)) (beside_tells m held id (Some (Cells r)) (λ e. not-it m (sym is ∙ e)) (cells_tell m held id (Some (Cells r)) is list.0)) in
+        rw (ap (ltb transaction_id) is ∙ behind-it m, list.1, list.2) at turn
 
-    pub list-alone : end ≡ length l → WalkedOver m l (Whole (seen_of (alone_by number id start end (eqb r 1))))
-    list-alone all = walk-whole m l (turn_on m l (then (omega arith)) (omega arith) _ end second_met) (omega arith) all
+    pub list-alone : end ≡ length l → WalkedOver m l (Some (seen_of (alone_by number id start end r.ascends)))
+    list-alone all = walk-whole m l (turn_on m l (then (omega arith)) (omega arith) refl _ end second_met) (omega arith) all

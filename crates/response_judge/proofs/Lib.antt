@@ -1,3 +1,3 @@
-pub mod FurtherLaws
+pub mod WithLaws
 pub mod GlanceLaws
 pub mod Once

@@ -23,10 +23,11 @@ use Rattle.wire.specs.Messages.{choice_of, code_of, transaction_id, cells_id, it
 use Rattle.wire.specs.Cells.{item, item_head, item_under, Entry, listed, is_item, entry, entry_element, list}
 use Rattle.wire.specs.MessageTree.{transaction, cells, contents, contents_by, element, value}
 use Rattle.wire.specs.declared.Message.{Message}
+use Rattle.wire.specs.declared.Message.TheVariants.{CancelRequest, CancelResponse, WriteReplaceResponse}
 use Rattle.responses.specs.Response.{assigned, item_for, entry_for, list_for, elements_for, response_for, response_bytes}
 use Rattle.responses.proofs.ListFit.{own-entry}
 use Rattle.responses.proofs.ResponseSizeLaws.{list-contents}
-use Rattle.response_write.specs.Parts.{response_by, opening, enclosed, item_bytes, items_bytes, list_bytes, element_count, value_bytes}
+use Rattle.response_write.specs.Parts.{opening, enclosed, item_bytes, items_bytes, list_bytes, element_count, value_bytes}
 
 -- an element
 element-bytes : {C : Type 0} (known : ℕ → Bool) (contents : ℕ → Format C) (id : ℕ) (c : C) → (element_of known contents).encode (assigned id c) ≡ enclosed id ((contents id).encode c)
@@ -45,54 +46,53 @@ cell-bytes x =
     let cell : part_of x * 2 ^ 4 + 0 ≡ y % 256 ^ 5 = omega arith in
     rw (first, plmn, cell) (ap (λ (l : List ℕ). x * 16 / 256 ^ 7 ∷ l) (to_be_add 2 5 y (omega arith)))
 
-item-plain : (counted : Bool) (w : Row)
-    → (item (response_by counted)).encode (item_for w) ≡ 0 ∷ ((to_be 3 (plmn_of w.identity) ++ to_be 5 (part_of w.identity * 2 ^ 4 + 0)) ++ to_be (count_size (response_by counted)) w.count)
+item-plain : (m : Message) (w : Row)
+    → (item m).encode (item_for w) ≡ 0 ∷ ((to_be 3 (plmn_of w.identity) ++ to_be 5 (part_of w.identity * 2 ^ 4 + 0)) ++ to_be (count_size m) w.count)
 unfolding item behind item_head pair bits as_if only number joined width item_under given optional times flat_map to_be
-item-plain true w = refl
-item-plain false w = refl
+item-plain CancelRequest w = refl
+item-plain CancelResponse w = refl
+item-plain WriteReplaceResponse w = refl
 
-item-contents : (counted : Bool) (w : Row) → (item (response_by counted)).encode (item_for w) ≡ 0 ∷ (to_be 8 (w.identity * 16) ++ to_be (count_size (response_by counted)) w.count)
-item-contents counted w =
-    item-plain counted w ∙ ap (λ (l : List ℕ). 0 ∷ (l ++ to_be (count_size (response_by counted)) w.count)) (cell-bytes w.identity)
+item-contents : (m : Message) (w : Row) → (item m).encode (item_for w) ≡ 0 ∷ (to_be 8 (w.identity * 16) ++ to_be (count_size m) w.count)
+item-contents m w =
+    item-plain m w ∙ ap (λ (l : List ℕ). 0 ∷ (l ++ to_be (count_size m) w.count)) (cell-bytes w.identity)
 
-item-enclosed : (counted : Bool) (w : Row) → enclosed (item_id (response_by counted)) (0 ∷ (to_be 8 (w.identity * 16) ++ to_be (count_size (response_by counted)) w.count)) ≡ item_bytes (response_by counted) w
+item-enclosed : (m : Message) (w : Row) → enclosed (item_id m) (0 ∷ (to_be 8 (w.identity * 16) ++ to_be (count_size m) w.count)) ≡ item_bytes m w
 unfolding enclosed opening to_be length_bytes item_bytes
-item-enclosed true w = refl
-item-enclosed false w = refl
+item-enclosed CancelRequest w = refl
+item-enclosed CancelResponse w = refl
+item-enclosed WriteReplaceResponse w = refl
 
 entry-contents : (m : Message) (w : Row) → (entry m (item_id m)).encode (listed (item_for w)) ≡ (item m).encode (item_for w)
 unfolding as_if
 entry-contents m w = rw (own-entry m)
 
-pub entry-bytes : (counted : Bool) (w : Row) → (entry_element (response_by counted)).encode (entry_for (response_by counted) w) ≡ item_bytes (response_by counted) w
+pub entry-bytes : (m : Message) (w : Row) → (entry_element m).encode (entry_for m w) ≡ item_bytes m w
 unfolding entry_for
-entry-bytes counted w =
-    let m = response_by counted in
+entry-bytes m w =
     element-bytes (is_item m) (entry m) (item_id m) (listed (item_for w))
-    ∙ ap (enclosed (item_id m)) (entry-contents m w ∙ item-contents counted w)
-    ∙ item-enclosed counted w
+    ∙ ap (enclosed (item_id m)) (entry-contents m w ∙ item-contents m w)
+    ∙ item-enclosed m w
 
 -- ---- the list
 
-pub items-bytes : (counted : Bool) (rows : List Row) → (list (response_by counted)).encode (map (entry_for (response_by counted)) rows) ≡ items_bytes (response_by counted) rows
+pub items-bytes : (m : Message) (rows : List Row) → (list m).encode (map (entry_for m) rows) ≡ items_bytes m rows
 unfolding list behind from_one as_if only number times items_bytes
-items-bytes counted rows =
-    let m = response_by counted in
+items-bytes m rows =
     rw (length-map, flat_map-map (entry_element m).encode (entry_for m) rows)
-    (ap (λ (l : List ℕ). to_be 2 (length rows - 1) ++ l) (flat_map_all _ (item_bytes m) (all_of (entry-bytes counted) rows)))
+    (ap (λ (l : List ℕ). to_be 2 (length rows - 1) ++ l) (flat_map_all _ (item_bytes m) (all_of (entry-bytes m) rows)))
 
 cells-contents : (m : Message) (es : List (Element Entry)) → (contents m (cells_id m)).encode (cells es) ≡ (list m).encode es
 unfolding contents_by as_if
 cells-contents m es = rw (list-contents m)
 
-list-bytes : (counted : Bool) (rows : List Row) → flat_map (element (response_by counted)).encode (list_for (response_by counted) rows) ≡ list_bytes (response_by counted) rows
+list-bytes : (m : Message) (rows : List Row) → flat_map (element m).encode (list_for m rows) ≡ list_bytes m rows
 unfolding flat_map list_for list_bytes
-list-bytes counted [] = refl
-list-bytes counted (w ∷ ws) =
-    let m = response_by counted in
+list-bytes m [] = refl
+list-bytes m (w ∷ ws) =
     append-nil ((element m).encode _)
     ∙ element-bytes (known m) (contents m) (cells_id m) (cells (map (entry_for m) (w ∷ ws)))
-    ∙ ap (enclosed (cells_id m)) (cells-contents m (map (entry_for m) (w ∷ ws)) ∙ items-bytes counted (w ∷ ws))
+    ∙ ap (enclosed (cells_id m)) (cells-contents m (map (entry_for m) (w ∷ ws)) ∙ items-bytes m (w ∷ ws))
 
 -- ---- the message
 
@@ -123,25 +123,26 @@ value_parts : (m : Message) (t : ℕ) (rows : List Row)
 unfolding value as_if pair bits only number joined width elements_of behind times flat_map elements_for to_be
 value_parts m t rows = refl
 
-pub value-bytes : (counted : Bool) (t : ℕ) → t < 256 → (rows : List Row) → (value (response_by counted)).encode (elements_for (response_by counted) t rows) ≡ value_bytes (response_by counted) t rows
+pub value-bytes : (m : Message) (t : ℕ) → t < 256 → (rows : List Row) → (value m).encode (elements_for m t rows) ≡ value_bytes m t rows
 unfolding value_bytes
-value-bytes counted t h rows =
-    value_parts (response_by counted) t rows
-    ∙ rw (how_many (response_by counted) t rows, count_bytes_lem (ltb 0 (length rows)), transaction-bytes (response_by counted) t h, list-bytes counted rows)
+value-bytes m t h rows =
+    value_parts m t rows
+    ∙ rw (how_many m t rows, count_bytes_lem (ltb 0 (length rows)), transaction-bytes m t h, list-bytes m rows)
 
 -- ---- the frame
 
-frame-bytes : {C : Type 0} (counted : Bool) (f : Format C) (c : C)
-    → (frame f).encode (record { choice = choice_of (response_by counted); code = code_of (response_by counted); criticality = reject; value = c }) ≡ enclosed (frame_id (response_by counted)) (f.encode c)
+frame-bytes : {C : Type 0} (m : Message) (f : Format C) (c : C)
+    → (frame f).encode (record { choice = choice_of m; code = code_of m; criticality = reject; value = c }) ≡ enclosed (frame_id m) (f.encode c)
 unfolding frame behind two_bits as_if only number frame_under pair frame_criticality inside open_type determinant run to_be opening enclosed
-frame-bytes true f c = refl
-frame-bytes false f c = refl
+frame-bytes CancelRequest f c = refl
+frame-bytes CancelResponse f c = refl
+frame-bytes WriteReplaceResponse f c = refl
 
 -- ---- all of it
 
-pub response-bytes : (counted : Bool) (t : ℕ) → t < 256 → (rows : List Row)
-    → response_bytes (response_by counted) t rows ≡ enclosed (frame_id (response_by counted)) (value_bytes (response_by counted) t rows)
+pub response-bytes : (m : Message) (t : ℕ) → t < 256 → (rows : List Row)
+    → response_bytes m t rows ≡ enclosed (frame_id m) (value_bytes m t rows)
 unfolding response_bytes response_for
-response-bytes counted t h rows =
-    frame-bytes counted (value (response_by counted)) (elements_for (response_by counted) t rows)
-    ∙ ap (enclosed (frame_id (response_by counted))) (value-bytes counted t h rows)
+response-bytes m t h rows =
+    frame-bytes m (value m) (elements_for m t rows)
+    ∙ ap (enclosed (frame_id m)) (value-bytes m t h rows)

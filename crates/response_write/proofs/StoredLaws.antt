@@ -17,8 +17,10 @@ use Rattle.answer.proofs.RowsLaws.{length-rows}
 use Rattle.aper.specs.Elements.{short_length, long_length}
 use Rattle.wire.specs.Messages.{transaction_id, cells_id, count_size}
 use Rattle.wire.specs.Readers.{plain_head}
+use Rattle.wire.specs.declared.Message.{Message}
+use Rattle.wire.specs.declared.Message.TheVariants.{CancelRequest, CancelResponse, WriteReplaceResponse}
 use Rattle.responses.specs.ResponseSize.{list_size}
-use Rattle.response_write.specs.Parts.{response_by, opening, opening_size, enclosed, item_bytes, items_bytes, list_bytes, front_bytes, front_number}
+use Rattle.response_write.specs.Parts.{opening, opening_size, enclosed, item_bytes, items_bytes, list_bytes, front_bytes, front_number}
 use Rattle.response_write.proofs.LengthLaws.{long-opening}
 use Rattle.response_write.proofs.SizeLaws.{length-opening, length-items}
 
@@ -55,54 +57,55 @@ front_stored l {a} at start n many t p q r e =
 
 -- ---- the list
 
-module _ (answer : List ℕ) (counted : Bool) (many : ℕ) where
+module _ (answer : List ℕ) (m : Message) (many : ℕ) where
   list-some : (rows : List Row) → 0 < length rows
-      → list_bytes (response_by counted) rows ≡ opening (cells_id (response_by counted)) (list_size (response_by counted) (length rows)) ++ (to_be 2 (length rows - 1) ++ flat_map (item_bytes (response_by counted)) rows)
+      → list_bytes m rows ≡ opening (cells_id m) (list_size m (length rows)) ++ (to_be 2 (length rows - 1) ++ flat_map (item_bytes m) rows)
   unfolding list_bytes enclosed items_bytes
   list-some [] some = absurd (omega arith)
-  list-some (w ∷ ws) some = ap (λ (n : ℕ). opening (cells_id (response_by counted)) n ++ items_bytes (response_by counted) (w ∷ ws)) (length-items counted (w ∷ ws))
+  list-some (w ∷ ws) some = ap (λ (n : ℕ). opening (cells_id m) n ++ items_bytes m (w ∷ ws)) (length-items m (w ∷ ws))
 
-  pub list-stored : (l : List ℕ) (at from : ℕ) {a b c : List ℕ} (size : ℕ) → 0 < many → size ≡ list_size (response_by counted) many
-      → a ≡ sets l at (opening (cells_id (response_by counted)) size)
+  pub list-stored : (l : List ℕ) (at from : ℕ) {a b c : List ℕ} (size : ℕ) → 0 < many → size ≡ list_size m many
+      → a ≡ sets l at (opening (cells_id m) size)
       → from ≡ at + opening_size size
       → b ≡ sets a from (to_be 2 (many - 1))
-      → c ≡ sets b (from + 2) (flat_map (item_bytes (response_by counted)) (rows_in answer many))
-      → c ≡ sets l at (list_bytes (response_by counted) (rows_in answer many))
+      → c ≡ sets b (from + 2) (flat_map (item_bytes m) (rows_in answer many))
+      → c ≡ sets l at (list_bytes m (rows_in answer many))
   list-stored l at from {a} size some whole p e q r =
       let rows = rows_in answer many in
-      let long = length-opening (cells_id (response_by counted)) size in
-      let two = stored_then a from (from + 2) (to_be 2 (many - 1)) (flat_map (item_bytes (response_by counted)) rows) q r (rw length-to_be) in
-      stored_then l at from (opening (cells_id (response_by counted)) size) (to_be 2 (many - 1) ++ flat_map (item_bytes (response_by counted)) rows) p two (omega arith)
+      let long = length-opening (cells_id m) size in
+      let two = stored_then a from (from + 2) (to_be 2 (many - 1)) (flat_map (item_bytes m) rows) q r (rw length-to_be) in
+      stored_then l at from (opening (cells_id m) size) (to_be 2 (many - 1) ++ flat_map (item_bytes m) rows) p two (omega arith)
       ∙ rw (list-some rows (rw (length-rows answer many) some), length-rows answer many, whole)
 
 -- ---- an item
 
 -- what stands before its cell, and zeros
-head_bytes_lem : (counted : Bool) → to_be 8 (plain_head (response_by counted) * 256 ^ 4) ≡ (to_be 4 (plain_head (response_by counted)) ++ to_be 1 0) ++ to_be 3 0
+head_bytes_lem : (m : Message) → to_be 8 (plain_head m * 256 ^ 4) ≡ (to_be 4 (plain_head m) ++ to_be 1 0) ++ to_be 3 0
 unfolding to_be
-head_bytes_lem true = refl
-head_bytes_lem false = refl
+head_bytes_lem CancelRequest = refl
+head_bytes_lem CancelResponse = refl
+head_bytes_lem WriteReplaceResponse = refl
 
-module _ (l : List ℕ) (at : ℕ) (counted : Bool) (w : Row) {a b : List ℕ} (p : a ≡ sets l at (to_be 8 (plain_head (response_by counted) * 256 ^ 4)))
+module _ (l : List ℕ) (at : ℕ) (m : Message) (w : Row) {a b : List ℕ} (p : a ≡ sets l at (to_be 8 (plain_head m * 256 ^ 4)))
     (q : b ≡ sets a (at + 5) (to_be 8 (w.identity * 16))) where
   -- without its count
   abbrev Plain : List ℕ
-  Plain = (to_be 4 (plain_head (response_by counted)) ++ to_be 1 0) ++ to_be 8 (w.identity * 16)
+  Plain = (to_be 4 (plain_head m) ++ to_be 1 0) ++ to_be 8 (w.identity * 16)
 
   plain-stored : b ≡ sets l at Plain
   plain-stored =
-      let flagged = to_be 4 (plain_head (response_by counted)) ++ to_be 1 0 in
-      rw (q, p, head_bytes_lem counted) (sets_across flagged (to_be 3 0) (to_be 8 (w.identity * 16)) l at (at + 5) (unfold to_be in refl) (unfold to_be in omega arith))
+      let flagged = to_be 4 (plain_head m) ++ to_be 1 0 in
+      rw (q, p, head_bytes_lem m) (sets_across flagged (to_be 3 0) (to_be 8 (w.identity * 16)) l at (at + 5) (unfold to_be in refl) (unfold to_be in omega arith))
 
-  item-stored : {e : List ℕ} → e ≡ sets b (at + 13) (to_be (count_size (response_by counted)) w.count) → e ≡ sets l at (item_bytes (response_by counted) w)
+  item-stored : {e : List ℕ} → e ≡ sets b (at + 13) (to_be (count_size m) w.count) → e ≡ sets l at (item_bytes m w)
   unfolding item_bytes to_be
-  item-stored s = stored_then l at (at + 13) Plain (to_be (count_size (response_by counted)) w.count) plain-stored s refl
+  item-stored s = stored_then l at (at + 13) Plain (to_be (count_size m) w.count) plain-stored s refl
 
   -- one that has none
-  pub plain_item_lem : counted ≡ false → b ≡ sets l at (item_bytes (response_by counted) w)
+  pub plain_item_lem : count_size m ≡ 0 → b ≡ sets l at (item_bytes m w)
   unfolding to_be
   plain_item_lem e = item-stored (rw e)
 
   -- one that has one
-  pub counted-item : counted ≡ true → {e : List ℕ} → e ≡ sets b (at + 13) (to_be 2 w.count) → e ≡ sets l at (item_bytes (response_by counted) w)
+  pub counted-item : count_size m ≡ 2 → {e : List ℕ} → e ≡ sets b (at + 13) (to_be 2 w.count) → e ≡ sets l at (item_bytes m w)
   counted-item t s = item-stored (rw t s)

@@ -1,7 +1,7 @@
 -- What is written for an answer, by the two tests: its response's bytes are the parts, and as many as were counted.
 use Rattle.std.specs.Prelude.{Ok, Err}
-use mathlib.Core.Path.{◌≡◌, ap, ◌∙◌}
-use mathlib.Core.Bool.{Bool, true, false}
+use mathlib.Core.Path.{◌≡◌, refl, ap, ◌∙◌}
+use mathlib.Core.Bool.{true, false}
 use mathlib.Core.List.{List, ◌++◌, append_assoc, append-nil}
 use Prim.Native.Nat.{ℕ, ◌+◌, ◌<◌, ◌≤◌}
 use native.Mathlib.Omega.{arith}
@@ -37,38 +37,41 @@ response-to : (kind : ℕ) → is_wired (kind_of kind) ≡ true → response_to 
 response-to kind wired = wired_by kind wired (λ k. rw k) (λ k. rw k)
 
 -- all before the list, and the list
-the_parts : (counted : Bool) (b : List ℕ) (many t : ℕ) → t < 256
-    → enclosed (frame_id (response_by counted)) (value_bytes (response_by counted) t (rows_in b many))
-    ≡ (opening (frame_id (response_by counted)) (value_size (response_by counted) many) ++ front_bytes many t) ++ list_bytes (response_by counted) (rows_in b many)
+the_parts : (m : Message) (b : List ℕ) (many t : ℕ) → t < 256
+    → enclosed (frame_id m) (value_bytes m t (rows_in b many))
+    ≡ (opening (frame_id m) (value_size m many) ++ front_bytes many t) ++ list_bytes m (rows_in b many)
 unfolding enclosed
-the_parts counted b many t byte =
-    rw (length-value counted t byte (rows_in b many), length-rows b many, append_assoc) (unfold value_bytes in rw (length-rows b many))
+the_parts m b many t byte =
+    rw (length-value m t byte (rows_in b many), length-rows b many, append_assoc) (unfold value_bytes in rw (length-rows b many))
 
 -- ---- without rows
 
 -- there is nothing behind the front
-bare_parts : (counted : Bool) (b : List ℕ) (t : ℕ) → t < 256
-    → enclosed (frame_id (response_by counted)) (value_bytes (response_by counted) t (rows_in b 0)) ≡ bare_bytes (response_by counted) t
+bare_parts : (m : Message) (b : List ℕ) (t : ℕ) → t < 256
+    → enclosed (frame_id m) (value_bytes m t (rows_in b 0)) ≡ bare_bytes m t
 unfolding bare_bytes list_bytes pieces
-bare_parts counted b t byte = the_parts counted b 0 t byte ∙ append-nil _
+bare_parts m b t byte = the_parts m b 0 t byte ∙ append-nil _
 
 -- a length below 128 has one byte
 abbrev bare_size : ℕ
 bare_size = 4 + front_size
 
-module _ (counted : Bool) (t : ℕ) (buffer : List ℕ) where
-  length-bare : length (bare_bytes (response_by counted) t) ≡ bare_size
+module _ (m : Message) (t : ℕ) (buffer : List ℕ) where
+  length-bare : length (bare_bytes m t) ≡ bare_size
   unfolding bare_bytes
   length-bare = rw (length-append, length-opening, short-size front_size (omega arith))
 
-  pub short-bare : length buffer < bare_size → filled_by (Err ShortBuffer) buffer ≡ bare_written (response_by counted) t buffer
+  pub short-bare : length buffer < bare_size → filled_by (Err ShortBuffer) buffer ≡ bare_written m t buffer
   unfolding bare_written fill
   short-bare h = rw (length-bare, lt-leb bare_size (length buffer) h)
 
-  pub all_bare : bare_size ≤ length buffer → {after : List ℕ} → after ≡ sets buffer 0 (bare_bytes (response_by counted) t)
-      → filled_by (Ok bare_size) after ≡ bare_written (response_by counted) t buffer
+  -- what stands before the list of no rows
+  pub all_bare : bare_size ≤ length buffer → {rows : ℕ} → rows ≡ 0 → {after : List ℕ} → after ≡ sets buffer 0 (opening (frame_id m) front_size ++ front_bytes rows t)
+      → filled_by (Ok bare_size) after ≡ bare_written m t buffer
   unfolding bare_written fill
-  all_bare h p = rw (length-bare, le-leb bare_size (length buffer) h, p, length-bare)
+  all_bare h none p =
+      let whole : bare_bytes m t ≡ opening (frame_id m) front_size ++ front_bytes 0 t = unfold bare_bytes in refl in
+      rw (length-bare, le-leb bare_size (length buffer) h, p, none, ← whole, length-bare)
 
 -- ---- of an answer
 
@@ -98,37 +101,35 @@ module _ (b : List ℕ) where
       pub given-rows : RowsOf b many
       given-rows = record { whole = rw e (omega (arith, facts.legal.size)); few = rw e facts.few; small = all_small }
 
-      module _ {kind : ℕ} (k : kind ≡ (answer_of current b).kind) (t : ℕ) (byte : t < 256) where
-        abbrev message : Message
-        message = response_by (eqb kind cancel_or_kill)
+      module _ {kind : ℕ} (k : kind ≡ (answer_of current b).kind) {m : Message} (answers : m ≡ response_by (eqb kind cancel_or_kill)) (t : ℕ) (byte : t < 256) where
+        the_message : response_to (kind_of (answer_of current b).kind) ≡ m
+        the_message = rw (answers, k) (response-to (answer_of current b).kind facts.wired)
 
-        the_bytes : response_of (answer_of current b) t ≡ enclosed (frame_id message) (value_bytes message t (rows_in b many))
-        the_bytes =
-            rw (response-to (answer_of current b).kind facts.wired, ← k, rows-given)
-            (response-bytes (eqb kind cancel_or_kill) t byte (rows_in b many))
+        the_bytes : response_of (answer_of current b) t ≡ enclosed (frame_id m) (value_bytes m t (rows_in b many))
+        the_bytes = rw (the_message, rows-given) (response-bytes m t byte (rows_in b many))
 
-        the_size : length (response_of (answer_of current b) t) ≡ response_size message many
+        the_size : length (response_of (answer_of current b) t) ≡ response_size m many
         the_size =
-            rw (response-to (answer_of current b).kind facts.wired, ← k, rows-given)
-            (response-size message t (rows_in b many) ∙ ap (response_size message) (length-rows b many))
+            rw (the_message, rows-given)
+            (response-size m t (rows_in b many) ∙ ap (response_size m) (length-rows b many))
 
-        pub bare-written : many ≡ 0 → (buffer : List ℕ) → bare_written message t buffer ≡ response_written b t buffer
+        pub bare-written : many ≡ 0 → (buffer : List ℕ) → bare_written m t buffer ≡ response_written b t buffer
         unfolding bare_written response_written response_verdict
-        bare-written none buffer = rw (yes, the_bytes, none, bare_parts (eqb kind cancel_or_kill) b t byte)
+        bare-written none buffer = rw (yes, the_bytes, none, bare_parts m b t byte)
 
-        module _ (buffer : List ℕ) (size : ℕ) (s : size ≡ response_size message many) where
+        module _ (buffer : List ℕ) (size : ℕ) (s : size ≡ response_size m many) where
           pub short-written : length buffer < size → filled_by (Err ShortBuffer) buffer ≡ response_written b t buffer
           unfolding response_written response_verdict fill
           short-written h = rw (yes, lt-leb (length (response_of (answer_of current b) t)) (length buffer) (rw (the_size, ← s) h))
 
-          pub all_written : size ≤ length buffer → {front after : List ℕ} {at value : ℕ} → value ≡ value_size message many
-              → front ≡ sets buffer 0 (opening (frame_id message) value ++ front_bytes many t)
+          pub all_written : size ≤ length buffer → {front after : List ℕ} {at value : ℕ} → value ≡ value_size m many
+              → front ≡ sets buffer 0 (opening (frame_id m) value ++ front_bytes many t)
               → at ≡ opening_size value + front_size
-              → after ≡ sets front at (list_bytes message (rows_in b many))
+              → after ≡ sets front at (list_bytes m (rows_in b many))
               → filled_by (Ok size) after ≡ response_written b t buffer
           unfolding response_written response_verdict fill
           all_written h {front} {after} {at} {value} v p e q =
-              let long : at ≡ 0 + length (opening (frame_id message) value ++ front_bytes many t) = rw (length-append, length-opening) (omega arith) in
+              let long : at ≡ 0 + length (opening (frame_id m) value ++ front_bytes many t) = rw (length-append, length-opening) (omega arith) in
               let whole : after ≡ sets buffer 0 (response_of (answer_of current b) t) =
-              rw (the_bytes, the_parts (eqb kind cancel_or_kill) b many t byte, ← v) (stored_then buffer 0 at (opening (frame_id message) value ++ front_bytes many t) (list_bytes message (rows_in b many)) p q long) in
+              rw (the_bytes, the_parts m b many t byte, ← v) (stored_then buffer 0 at (opening (frame_id m) value ++ front_bytes many t) (list_bytes m (rows_in b many)) p q long) in
               rw (yes, le-leb (length (response_of (answer_of current b) t)) (length buffer) (rw (the_size, ← s) h), whole, s, ← the_size)

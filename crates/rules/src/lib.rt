@@ -1,7 +1,7 @@
 // Document 01's types. What they mean, and every rule about them, stands in specs/.
 #![tactic(auto)]
 
-ghost use Rattle.std.specs.Prelude.{◌≡◌, ◌+◌, ◌<◌, ltb};
+ghost use Rattle.std.specs.Prelude.{◌≡◌, ◌+◌, ◌<◌};
 ghost use Rattle.rules.specs.Layout.{cell_end};
 ghost use Rattle.rules.specs.Identity.{identity_number, identity_answer, plmn_of, part_of, cell_item, tracking_item};
 ghost use Rattle.rules.specs.Record.{cancel_all, concurrent, notified, text_asked};
@@ -130,7 +130,7 @@ pub fn writing_length(writing: Result<usize, Refusal>) -> usize
     }
 }
 
-// NR CGI: a 24-bit PLMN, then 36 bits.
+// NR CGI: a 24-bit PLMN, then 36 bits. Cells are ordered by it as a number.
 #[derive(Clone, Copy, PartialEq, Eq, PartialOrd, Ord)]
 pub struct CellIdentity(pub u64);
 
@@ -164,12 +164,6 @@ impl CellIdentity {
         ensures { result ≡ part_of self.0 }
     {
         self.0 % PART_END
-    }
-
-    pub fn below(self, other: CellIdentity) -> bool
-        ensures { result ≡ ltb (identity_number self) (identity_number other) }
-    {
-        self.0 < other.0
     }
 
     // The least that may follow, where cells ascend.

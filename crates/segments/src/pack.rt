@@ -6,7 +6,7 @@ ghost use Rattle.segments.specs.Segments.{cut_at, length_size, lengths_fit, list
 ghost use Rattle.segments.specs.Within.{ToPack};
 
 use crate::{LENGTH, LONGEST_SEGMENT, MOST_SEGMENTS};
-use octets::{copy, put16};
+use octets::{copy, put};
 use rules::Refusal;
 
 // Whether the lengths add up to so many bytes, and none is too long. What is left is counted down, so that no sum can overflow.
@@ -51,7 +51,7 @@ fn put_segment(list: &mut [u8], at: usize, segment: &[u8])
     requires segment_len_bound { length segment.now ≤ longest_segment }
     ensures { list.new ≡ sets list.old at (segment_bytes segment.now) }
 {
-    put16(list, at, segment.len() as u16);
+    put(list, at, segment.len() as u16);
     copy(list, at + LENGTH, segment);
 }
 

@@ -4,7 +4,7 @@ ghost use Rattle.segments.specs.Segments.{segment_of, lies_at, lies_by, lent_fro
 ghost use Rattle.segments.specs.Within.{Scanned};
 
 use crate::{LENGTH, MOST_SEGMENTS};
-use octets::get16;
+use octets::get;
 use rules::Refusal;
 
 // Where a segment lies, or why there is none.
@@ -35,7 +35,7 @@ fn scan(more: &[u8], k: usize) -> Pass
     let mut length: usize = 0;
     'segments: while LENGTH <= more.len() - end {
         let from = end + LENGTH;
-        let size = get16(more, end) as usize;
+        let size = get::<u16>(more, end) as usize;
         if more.len() - from < size {
             break 'segments;
         }

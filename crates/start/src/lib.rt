@@ -4,59 +4,62 @@
 ghost use Rattle.std.specs.Prelude.{◌≡◌};
 ghost use Rattle.rules.specs.Layout.{current};
 ghost use Rattle.rules.specs.Table.{place_bytes};
+ghost use Rattle.rules.specs.ZeroRules.{zero_rules_stop};
 ghost use Rattle.rules.specs.InCell.{starts_nothing, new_place};
 
 use cell_change::place_bytes;
 use rules::layout::{PLACE, PRIMARY_SIB};
 use rules::{Broadcasts, Place, Request, Seconds};
 
-// The zero rules (docs/ZERO-RULES.md): whether a start is idle.
-const IDLE: [bool; 12] = [
-    // concurrent, requested, period
-    true, // no, 0, 0
-    true, // no, 0, above 0
-    false, // no, 1, 0
-    false, // no, 1, above 0
-    true, // no, above 1, 0
-    false, // no, above 1, above 0
-    true, // yes, 0, 0
-    false, // yes, 0, above 0
-    false, // yes, 1, 0
-    false, // yes, 1, above 0
-    true, // yes, above 1, 0
-    false, // yes, above 1, above 0
-];
+// The zero rules (docs/ZERO-RULES.md): whether a start is idle, a row for each case.
+fn zero_rules_stop(request: Request) -> bool
+    ensures { result ≡ zero_rules_stop request }
+{
+    match (request.concurrent(), request.requested.0, request.period.0) {
+        (false, 0, 0) => true,
+        (false, 0, _) => true,
+        (false, 1, 0) => false,
+        (false, 1, _) => false,
+        (false, _, 0) => true,
+        (false, _, _) => false,
+        (true, 0, 0) => true,
+        (true, 0, _) => false,
+        (true, 1, 0) => false,
+        (true, 1, _) => false,
+        (true, _, 0) => true,
+        (true, _, _) => false,
+    }
+}
 
 // What the table says, of a text that is no primary.
 pub fn starts_nothing(request: Request) -> bool
     ensures { result ≡ starts_nothing request }
 {
-    let concurrent = request.concurrent() as usize;
-    let requested = (0 < request.requested.0) as usize + (1 < request.requested.0) as usize;
-    let period = (0 < request.period.0) as usize;
-    (request.sib != PRIMARY_SIB) & IDLE[6 * concurrent + 2 * requested + period]
+    (request.sib != PRIMARY_SIB) & zero_rules_stop(request)
 }
 
 // A primary goes out every second until it is stopped, whatever period and count it came with.
 fn new_place(request: Request) -> Place
     ensures { result ≡ new_place request }
 {
-    let mut period = request.period;
-    let mut requested = request.requested;
-    if request.sib == PRIMARY_SIB {
-        period = Seconds(1);
-        requested = Broadcasts(0);
-    }
-    Place {
+    let place = Place {
         identifier: request.identifier,
         serial: request.serial,
         content: request.content,
-        period: period,
-        requested: requested,
+        period: request.period,
+        requested: request.requested,
         sent: Broadcasts(0),
         wait: Seconds(0),
         sib: request.sib,
+    };
+    if request.sib == PRIMARY_SIB {
+        return Place {
+            period: Seconds(1),
+            requested: Broadcasts(0),
+            ..place
+        };
     }
+    place
 }
 
 // Made once for a request, and stored in each cell that has a place for it.

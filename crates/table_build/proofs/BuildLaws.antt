@@ -3,10 +3,12 @@
 use mathlib.Core.Path.{◌≡◌, refl, sym, ◌∙◌}
 use mathlib.Core.List.{List, [], ◌++◌, flat_map, append_assoc, append-nil}
 use Prim.Native.Nat.{ℕ, ◌+◌, ◌-◌, ◌*◌, ◌≤◌, ◌<◌}
+use native.Mathlib.Nat.{mul-zero, mul-suc, sub-zero}
+use native.Mathlib.Numerals.{add-one}
 use native.Mathlib.Omega.{arith}
 use borrow.Rule.Slice.PartMut.{mid_of, put_mid}
 use lib.ListN.{length, take, drop, replicate, length-append, length-drop, drop_of_length-le}
-use lib.Seq.{sets, sets-eq, length-sets, length-take-le, take_all, take_at, drop-drop}
+use lib.Seq.{sets, sets-eq, length-sets, take_all, take_at, drop-drop}
 use Rattle.octets.specs.Runs.{gets, pieces, Bytes}
 use Rattle.octets.specs.Numbers.{be, to_be}
 use Rattle.octets.specs.Fields.{bytes_of}
@@ -14,7 +16,6 @@ use Rattle.octets.proofs.RunsLaws.{gets_eq, gets_run, length-gets, sets-run, set
 use Rattle.octets.proofs.NumbersLaws.{length-to_be, to_be-gets, to_be_join}
 use Rattle.rules.specs.Layout.{current, places_per_cell, most_cells, header_size, head_size, cell_size, table_mark, version_number}
 use Rattle.rules.specs.Table.{header_bytes}
-use Rattle.table_judge.proofs.PiecesLaws.{piece-fits}
 use Rattle.table_build.specs.Build.{empty_run}
 use Rattle.octets.proofs.PiecesLaws.{pieces_more, pieces_none}
 
@@ -74,60 +75,38 @@ pub length-empty_run : (head : List ℕ) → length head ≡ head_size current �
 unfolding empty_run
 length-empty_run head e = rw (length-append, e)
 
--- cells made one by one, each by f from w bytes of a source
-module _ (f : List ℕ → List ℕ) (w : ℕ) where
-  pub record CellsLeft (t₀ source : List ℕ) (count : ℕ) (t : List ℕ) (from at left : ℕ) : Type 0 where
-    pub given : from + w * left ≤ length source
-    pub room : at + cell_size current * left ≤ length t
-    pub long : length t ≡ length t₀
-    pub rest : sets t₀ header_size (flat_map f (pieces w count source)) ≡ sets t at (flat_map f (pieces w left (drop from source)))
+-- cells made one by one, each by f of a run of w bytes: t is what k of them left
+pub record CellsLeft (f : List ℕ → List ℕ) (w count : ℕ) (t₀ source t : List ℕ) (k : ℕ) : Type 0 where
+  pub same : sets t₀ header_size (flat_map f (pieces w count source)) ≡ sets t (header_size + cell_size current * k) (flat_map f (pieces w (count - k) (drop (w * k) source)))
 
-  pub cells-start : (t₀ source : List ℕ) (count : ℕ) → w * count ≤ length source → header_size + cell_size current * count ≤ length t₀
-      → CellsLeft t₀ source count t₀ 0 header_size count
-  cells-start t₀ source count s r = record { given = omega arith; room = r; long = refl; rest = refl }
+pub cells-start : (f : List ℕ → List ℕ) (w count : ℕ) (t₀ source : List ℕ) → CellsLeft f w count t₀ source t₀ 0
+cells-start f w count t₀ source = record { same = rw (mul-zero, sub-zero) }
 
-  pub cells-end : {t₀ source : List ℕ} {count : ℕ} {t : List ℕ} {from at left : ℕ} → CellsLeft t₀ source count t from at left → left ≤ 0
-      → t ≡ sets t₀ header_size (flat_map f (pieces w count source))
+pub cells-end : {f : List ℕ → List ℕ} {w count : ℕ} {t₀ source t : List ℕ} {k : ℕ} → CellsLeft f w count t₀ source t k → count ≤ k
+    → t ≡ sets t₀ header_size (flat_map f (pieces w count source))
+unfolding flat_map
+cells-end {w} {count} {source} {k} p end = sym (p.same ∙ rw (pieces_none w (count - k) (drop (w * k) source) (omega arith)))
+
+-- a turn: new is what it leaves in cell k
+module _ {f : List ℕ → List ℕ} {w count : ℕ} {t₀ source t : List ℕ} {k : ℕ} (p : CellsLeft f w count t₀ source t k) (more : k < count)
+    (new : List ℕ) (en : new ≡ f (take (w * k + w - w * k) (drop (w * k) source))) (sized : length new ≡ cell_size current)
+    (room : header_size + cell_size current * k + cell_size current ≤ length t) where
+  abbrev at : ℕ
+  at = header_size + cell_size current * k
+
+  stored : put_mid at (at + cell_size current - at) t new ≡ sets t at new
+  stored =
+      let whole : at + cell_size current - at ≡ cell_size current = omega arith in
+      rw (whole, sets-eq new t at (omega (arith, sized)), sized, drop-drop (cell_size current) at t, append_assoc)
+
+  pub cells_on : CellsLeft f w count t₀ source (put_mid at (at + cell_size current - at) t new) (k + 1)
   unfolding flat_map
-  cells-end {source} {from} {left} p h = sym (p.rest ∙ rw (pieces_none w left (drop from source) h))
-
-  module _ (sized : (b : List ℕ) → length b ≡ w → length (f b) ≡ cell_size current)
-      {t₀ source : List ℕ} {count : ℕ} {t : List ℕ} {from at left : ℕ} (p : CellsLeft t₀ source count t from at left) (h : 0 < left)
-      (new : List ℕ) (en : new ≡ f (take (from + w - from) (drop from source))) where
-    -- what of the source was lent
-    abbrev lent : List ℕ
-    lent = take w (drop from source)
-
-    made : new ≡ f lent
-    made = let k : from + w - from ≡ w = omega arith in en ∙ rw k
-
-    -- one more lies in the source
-    ahead : (from + w ≤ length source) × (from + w + w * (left - 1) ≤ length source)
-    ahead =
-        let g = p.given in
-        let k = piece-fits w from left refl h in
-        (omega (arith, k.0), omega (arith, k.1))
-
-    new-sized : length new ≡ cell_size current
-    new-sized =
-        let d : length (drop from source) ≡ length source - from = length-drop from source in
-        rw made (sized lent (length-take-le w (drop from source) (omega (arith, ahead.0))))
-
-    stored : put_mid at (at + cell_size current - at) t new ≡ sets t at new
-    stored =
-        let r = p.room in
-        let k : at + cell_size current - at ≡ cell_size current = omega arith in
-        rw (k, sets-eq new t at (omega (arith, new-sized)), new-sized, drop-drop (cell_size current) at t, append_assoc)
-
-    pub cells_on : CellsLeft t₀ source count (put_mid at (at + cell_size current - at) t new) (from + w) (at + cell_size current) (left - 1)
-    unfolding flat_map
-    cells_on =
-        let r = p.room in
-        let l : length (sets t at new) ≡ length t = length-sets t at new in
-        rw stored
-        (record {
-          given = ahead.1;
-          room = omega arith;
-          long = l ∙ p.long;
-          rest = p.rest ∙ rw (pieces_more w left from source h, ← made, sets-run new _ t at (at + cell_size current) (rw new-sized));
-        })
+  cells_on =
+      let whole : w * k + w - w * k ≡ w = omega arith in
+      let next : w * (k + 1) ≡ w * k + w = rw (add-one k, mul-suc) in
+      let fewer : count - (k + 1) ≡ count - k - 1 = omega arith in
+      let behind : header_size + cell_size current * (k + 1) ≡ at + cell_size current = omega arith in
+      let made : new ≡ f (take w (drop (w * k) source)) = rw whole at en in
+      record {
+        same = p.same ∙ rw (stored, behind, pieces_more w (count - k) (w * k) source (omega arith), next, fewer, ← made, sets-run new _ t at (at + cell_size current) (rw sized));
+      }

@@ -1,12 +1,12 @@
 -- The builder's answers are `built`: 9, then 8, then the empty table of the heads, whole.
--- What the code learnt, l of the heads and the room, settles the verdict; the bytes of an empty cell are its head's and zeros, since a legal head is read and written back.
+-- What the code learnt of the heads and the room settles the verdict; the bytes of an empty cell are its head's and zeros, since a legal head is read and written back.
 use Rattle.std.specs.Prelude.{Ok, Err}
 use mathlib.Core.Path.{◌≡◌, sym, ◌∙◌}
-use mathlib.Core.Bool.{Bool, true, false, not}
+use mathlib.Core.Bool.{true, false}
 use mathlib.Core.List.{List, map, flat_map}
 use Prim.Native.Nat.{ℕ, ◌+◌, ◌*◌, ◌≤◌, ◌<◌}
 use native.Mathlib.Omega.{arith}
-use borrow.Author.Tests.{le-leb, lt-leb, not-true, not-false}
+use borrow.Author.Tests.{le-leb, lt-leb}
 use lib.ListN.{length, length-map}
 use lib.Seq.{sets}
 use Rattle.octets.specs.Runs.{Bytes}
@@ -55,31 +55,22 @@ module _ (heads : List ℕ) (bytes : Bytes heads) (legal : legal_heads heads ≡
 
 -- ---- the answers
 
--- the heads were found legal
-module _ (heads : List ℕ) (l : Bool) (el : l ≡ legal_heads heads) (right : not l ≡ false) where
-  found : legal_heads heads ≡ true
-  found = sym el ∙ not-false l right
+pub heads_bad : (heads t : List ℕ) → false ≡ legal_heads heads → filled_by (Err BadHeads) t ≡ built heads t
+unfolding built build_verdict fill
+heads_bad heads t bad = rw (← bad)
 
+module _ (heads : List ℕ) (found : true ≡ legal_heads heads) where
   pub heads-few : head_count heads ≤ most_cells
-  heads-few = (legal-heads heads found).few
+  heads-few = (legal-heads heads (sym found)).few
 
-module _ (heads t : List ℕ) (l : Bool) (el : l ≡ legal_heads heads) where
-  pub heads_bad : not l ≡ true → filled_by (Err BadHeads) t ≡ built heads t
+  pub buffer-short : (t : List ℕ) → length t < header_size + cell_size current * head_count heads → filled_by (Err ShortBuffer) t ≡ built heads t
   unfolding built build_verdict fill
-  heads_bad e = rw (← el, not-true l e)
+  buffer-short t h = rw (← found, lt-leb (header_size + cell_size current * head_count heads) (length t) h)
 
-  module _ (right : not l ≡ false) where
-    legal : legal_heads heads ≡ true
-    legal = found heads l el right
-
-    pub buffer-short : length t < header_size + cell_size current * head_count heads → filled_by (Err ShortBuffer) t ≡ built heads t
-    unfolding built build_verdict fill
-    buffer-short h = rw (legal, lt-leb (header_size + cell_size current * head_count heads) (length t) h)
-
-    pub table-built : Bytes heads → header_size + cell_size current * head_count heads ≤ length t → {a b : List ℕ} → a ≡ sets t 0 (header_bytes current (head_count heads))
-        → b ≡ sets a header_size (flat_map empty_run (head_runs heads)) → filled_by (Ok (header_size + cell_size current * head_count heads)) b ≡ built heads t
-    unfolding built build_verdict fill
-    table-built bytes room p q =
-        let made = cells heads bytes legal in
-        let long : length (table_bytes current made) ≡ header_size + cell_size current * head_count heads = length-table_bytes current made ∙ rw (count-cells heads bytes legal) in
-        rw (legal, le-leb (header_size + cell_size current * head_count heads) (length t) room, long, stored heads bytes legal t p q)
+  pub table-built : (t : List ℕ) → Bytes heads → header_size + cell_size current * head_count heads ≤ length t → {a b : List ℕ} → a ≡ sets t 0 (header_bytes current (head_count heads))
+      → b ≡ sets a header_size (flat_map empty_run (head_runs heads)) → filled_by (Ok (header_size + cell_size current * head_count heads)) b ≡ built heads t
+  unfolding built build_verdict fill
+  table-built t bytes room p q =
+      let made = cells heads bytes (sym found) in
+      let long : length (table_bytes current made) ≡ header_size + cell_size current * head_count heads = length-table_bytes current made ∙ rw (count-cells heads bytes (sym found)) in
+      rw (← found, le-leb (header_size + cell_size current * head_count heads) (length t) room, long, stored heads bytes (sym found) t p q)

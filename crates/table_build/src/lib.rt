@@ -1,7 +1,7 @@
 // The builder: an empty table from cell heads back to back, at the start of a lent buffer.
 #![tactic(auto)]
 
-ghost use Rattle.std.specs.Prelude.{◌≡◌, ◌+◌, ◌*◌, ◌≤◌, length, replicate};
+ghost use Rattle.std.specs.Prelude.{◌≡◌, ◌+◌, ◌*◌, ◌≤◌, length};
 ghost use mathlib.Core.List.{flat_map};
 ghost use Rattle.std.proofs.lemmas.List.Edits.{sets};
 ghost use Rattle.octets.specs.Runs.{pieces};
@@ -10,12 +10,12 @@ ghost use Rattle.rules.specs.Table.{legal_head, header_bytes};
 ghost use Rattle.rules.specs.Refusals.{legal_heads};
 ghost use Rattle.rules.specs.Applied.{filled_by, built};
 ghost use Rattle.table_judge.specs.Judge.{legal_runs};
-ghost use Rattle.table_build.specs.Build.{empty_run};
+ghost use Rattle.table_build.specs.Build.{empty_run, IsMaker};
 
-use octets::{BYTES_64, get64, put64};
+use octets::{Number, get, put};
+use rules::Refusal;
 use rules::layout::{CELL, HEAD, HEADER, MOST_CELLS, PLACES, TABLE_MARK, TABLE_VERSION, ZEROS_AT};
-use rules::{CellIdentity, Refusal};
-use table_judge::{head_legal, identity_at};
+use table_judge::{head_legal, runs_legal};
 
 // Any heads, any buffer: refusal 9, then 8; else the header, then each head with free places behind it. Bytes beyond stay.
 pub fn build(heads: &[u8], table: &mut [u8]) -> Result<usize, Refusal>
@@ -30,7 +30,7 @@ pub fn build(heads: &[u8], table: &mut [u8]) -> Result<usize, Refusal>
         return Err(Refusal::ShortBuffer);
     }
     put_header(table, count);
-    put_cells(table, heads, count);
+    put_cells(table, heads, HEAD, count, put_cell);
     Ok(length)
 }
 
@@ -45,29 +45,7 @@ fn heads_legal(heads: &[u8]) -> bool
     if !((1 <= count) & (count <= MOST_CELLS)) {
         return false;
     }
-    heads_in_order(heads, count)
-}
-
-// `least` is the least NR CGI that may follow.
-fn heads_in_order(heads: &[u8], count: usize) -> bool
-    requires { length heads.now ≡ head_size current * count }
-    ensures { result ≡ legal_runs current (legal_head current) (pieces (head_size current) count heads.now) }
-{
-    let mut at: usize = 0;
-    let mut least = CellIdentity(0);
-    while at < heads.len() {
-        let end = at + HEAD;
-        let identity = identity_at(heads, at);
-        if identity.below(least) {
-            return false;
-        }
-        if !head_legal(&heads[at..end]) {
-            return false;
-        }
-        least = identity.next();
-        at = end;
-    }
-    true
+    runs_legal(heads, HEAD, count, head_legal)
 }
 
 // The converter asks this too. The eight zeros, and before them mark, version, N and the places of a cell as one number.
@@ -76,28 +54,31 @@ pub fn put_header(table: &mut [u8], count: usize)
     ensures { table.new ≡ sets table.old 0 (header_bytes current count) }
 {
     let marked = (TABLE_MARK as u64) * 65536 + (TABLE_VERSION as u64);
-    put64(
+    put(
         table,
         0,
         (marked * 65536 + (count as u64)) * 256 + (PLACES as u64),
     );
-    put64(table, ZEROS_AT, 0);
+    put::<u64>(table, ZEROS_AT, 0);
 }
 
-fn put_cells(table: &mut [u8], heads: &[u8], count: usize)
-    requires { (head_size current * count ≤ length heads.now) × (header_size + cell_size current * count ≤ length table.old) }
-    ensures { table.new ≡ sets table.old header_size (flat_map empty_run (pieces (head_size current) count heads.now)) }
+// Cells behind the header, each made by the caller of one of so many runs of one size. The converter asks this too.
+pub fn put_cells<F: Fn(&mut [u8], &[u8])>(
+    table: &mut [u8],
+    runs: &[u8],
+    size: usize,
+    count: usize,
+    make: F,
+)
+    requires runs_whole { size * count ≤ length runs.now }
+    requires room { header_size + cell_size current * count ≤ length table.old }
+    requires may_be_asked { (cell : _) (run : _) → length cell.now ≡ cell_size current → length run.now ≡ size → F.pre make cell run }
+    ensures { (made : _) → IsMaker F.Fn make made → table.new ≡ sets table.old header_size (flat_map made (pieces size count runs.now)) }
 {
-    let mut from: usize = 0;
-    let mut at = HEADER;
-    let mut left = count;
-    while 0 < left {
-        let next = from + HEAD;
-        let end = at + CELL;
-        put_cell(&mut table[at..end], &heads[from..next]);
-        from = next;
-        at = end;
-        left -= 1;
+    for k in 0..count {
+        let at = HEADER + CELL * k;
+        let from = size * k;
+        make(&mut table[at..at + CELL], &runs[from..from + size]);
     }
 }
 
@@ -106,25 +87,16 @@ fn put_cell(cell: &mut [u8], head: &[u8])
     ensures { cell.new ≡ empty_run head.now }
 {
     put_head(cell, head);
-    clear(&mut cell[HEAD..]);
+    cell[HEAD..].fill(0);
 }
 
-// The head at the start of the cell, eight bytes at a time. The converter asks this too.
+// The head at the start of the cell. The converter asks this too.
+// Stays: three stores, since `copy_from_slice` asks whether the two overlap: ten instructions more for each cell (47,236 for 42,140 with 512 heads).
 pub fn put_head(cell: &mut [u8], head: &[u8])
     requires { (length head.now ≡ head_size current) × (head_size current ≤ length cell.old) }
     ensures { cell.new ≡ sets cell.old 0 head.now }
 {
-    put64(cell, 0, get64(head, 0));
-    put64(cell, BYTES_64, get64(head, BYTES_64));
-    put64(cell, 2 * BYTES_64, get64(head, 2 * BYTES_64));
-}
-
-fn clear(bytes: &mut [u8])
-    ensures { bytes.new ≡ replicate (length bytes.old) 0 }
-{
-    let mut at: usize = 0;
-    while at < bytes.len() {
-        bytes[at] = 0;
-        at += 1;
-    }
+    put(cell, 0, get::<u64>(head, 0));
+    put(cell, u64::BYTES, get::<u64>(head, u64::BYTES));
+    put(cell, 2 * u64::BYTES, get::<u64>(head, 2 * u64::BYTES));
 }

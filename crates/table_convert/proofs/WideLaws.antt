@@ -1,7 +1,7 @@
 -- A version 1 place and the widened one say the same: the same numbers, so the same place, live or free. A head has the same fields in both versions.
 -- Numbers that fit version 1's fields fit the wider ones, and what is written of numbers that fit says those numbers.
 use mathlib.Core.Path.{◌≡◌, refl, sym, ap, ◌∙◌}
-use mathlib.Core.Bool.{true, false≢true}
+use mathlib.Core.Bool.{Bool, true, false≢true}
 use mathlib.Core.List.{List}
 use Prim.Native.Nat.{ℕ, ◌^◌, ◌<◌}
 use native.Mathlib.Omega.{arith}
@@ -18,6 +18,7 @@ use Rattle.rules.proofs.TestLaws.{by_test}
 use Rattle.rules.proofs.FitLaws.{numbers-written, numbers-again, length-written}
 use Rattle.rules.proofs.LayoutLaws.{place-size}
 use Rattle.rules.proofs.PlacesCodec.{PlaceRun}
+use Rattle.table_judge.specs.Judge.{legal_runs}
 use Rattle.table_convert.specs.Wide.{wide_place}
 
 -- ---- a head
@@ -29,6 +30,10 @@ same_head b = refl
 pub same-identity : (b : List ℕ) → identity_at current b ≡ identity_at version1 b
 unfolding head_of
 same-identity b = refl
+
+pub same-runs : (f : List ℕ → Bool) (bs : List (List ℕ)) → legal_runs current f bs ≡ legal_runs version1 f bs
+unfolding legal_runs head_of
+same-runs f bs = refl
 
 pub same-legal : (b : List ℕ) → legal_head current b ≡ legal_head version1 b
 unfolding legal_head head_of

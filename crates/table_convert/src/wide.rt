@@ -5,7 +5,7 @@ ghost use Rattle.octets.specs.Runs.{gets};
 ghost use Rattle.rules.specs.Layout.{version1, current, place_size, places_per_cell, cell_size};
 ghost use Rattle.table_convert.specs.Wide.{wide_place, wide_places, wide_cell};
 
-use octets::{get16, get32, get64, put32, put64};
+use octets::{get, put};
 use rules::layout::{HEAD, PERIOD_AT, PLACE, PLACE_1, SIB_1_AT, SIB_AT, WAIT_1_AT, WAIT_AT};
 use table_build::put_head;
 
@@ -35,8 +35,16 @@ fn widen_place(wide: &mut [u8], to: usize, cell: &[u8], from: usize)
     requires { (to + place_size current ≤ length wide.old) × (from + place_size version1 ≤ length cell.now) }
     ensures { wide.new ≡ sets wide.old to (wide_place (gets cell.now from (place_size version1))) }
 {
-    put64(wide, to, get64(cell, from));
-    put64(wide, to + PERIOD_AT, get64(cell, from + PERIOD_AT) / 65536);
-    put32(wide, to + WAIT_AT, get16(cell, from + WAIT_1_AT) as u32);
-    put32(wide, to + SIB_AT, get32(cell, from + SIB_1_AT));
+    put(wide, to, get::<u64>(cell, from));
+    put(
+        wide,
+        to + PERIOD_AT,
+        get::<u64>(cell, from + PERIOD_AT) / 65536,
+    );
+    put(
+        wide,
+        to + WAIT_AT,
+        get::<u16>(cell, from + WAIT_1_AT) as u32,
+    );
+    put(wide, to + SIB_AT, get::<u32>(cell, from + SIB_1_AT));
 }

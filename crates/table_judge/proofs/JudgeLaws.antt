@@ -2,13 +2,13 @@
 -- What the code learnt, m of the mark, h of the header and r of the cells, settles each conjunction in turn.
 use Rattle.std.specs.Prelude.{Ok, Err}
 use mathlib.Core.Path.{◌≡◌, sym, ◌∙◌}
-use mathlib.Core.Bool.{Bool, true, false, not, ◌&&◌, and_assoc, and-false}
+use mathlib.Core.Bool.{Bool, true, false, ◌&&◌, and_assoc}
 use mathlib.Core.List.{List}
 use Prim.Native.Nat.{ℕ, ◌+◌, ◌-◌, ◌*◌, ◌≤◌}
 use native.Mathlib.Omega.{arith}
-use borrow.Author.Tests.{eqb-true, not-true, not-false}
+use borrow.Author.Tests.{eqb-true}
 use lib.Dec.{eqb, leb}
-use lib.ListN.{length, take, drop}
+use lib.ListN.{length, take, drop, length-drop}
 use Rattle.octets.specs.Runs.{gets, pieces}
 use Rattle.octets.specs.Numbers.{be}
 use Rattle.octets.specs.Fields.{offset, field_of}
@@ -37,41 +37,38 @@ module _ (v : Version) where
       eqb-true (length t) size (both (few && four && spare) (eqb (length t) size) e).1
 
   -- the header was found legal
-  module _ (t : List ℕ) (h : Bool) (eh : h ≡ legal_header (cell_size v) t) (right : not h ≡ false) where
-    header : legal_header (cell_size v) t ≡ true
-    header = sym eh ∙ not-false h right
-
+  module _ (t : List ℕ) (h : true ≡ legal_header (cell_size v) t) where
     pub header-long : header_size ≤ length t
-    header-long = omega (arith, header-size t header)
+    header-long = omega (arith, header-size t (sym h))
 
     count : (n : ℕ) → n ≡ be (gets t 5 2) → n ≡ cell_count t
     unfolding offset
     count n en = en ∙ sym (field_at header_fields cells_in_header t (omega (arith, header-long)))
 
-    pub table-size : (n : ℕ) → n ≡ be (gets t 5 2) → length t ≡ header_size + cell_size v * n
-    table-size n en = rw (count n en) (header-size t header)
+    pub runs-size : (n : ℕ) → n ≡ be (gets t 5 2) → length (take (length t - header_size) (drop header_size t)) ≡ cell_size v * n
+    runs-size n en = rw (take_rest, length-drop, count n en) (omega (arith, header-size t (sym h)))
 
-  module _ (t : List ℕ) (m : Bool) (em : m ≡ table_marked (version_number v) t) where
-    pub unmarked : not m ≡ true → Err TableMark ≡ table_verdict v t
+  module _ (t : List ℕ) where
+    pub unmarked : false ≡ table_marked (version_number v) t → Err TableMark ≡ table_verdict v t
     unfolding table_verdict
-    unmarked e = rw (← em, not-true m e)
+    unmarked m = rw (← m)
 
-    module _ (marked : not m ≡ false) (h : Bool) (eh : h ≡ legal_header (cell_size v) t) where
+    module _ (m : true ≡ table_marked (version_number v) t) where
       refused : legal_table v t ≡ false → Err TableWrong ≡ table_verdict v t
       unfolding table_verdict
-      refused e = rw (← em, not-false m marked, e)
+      refused e = rw (← m, e)
 
-      pub header-wrong : not h ≡ true → Err TableWrong ≡ table_verdict v t
-      header-wrong e = refused (table_parts t ∙ rw (← eh, not-true h e))
+      pub header-wrong : false ≡ legal_header (cell_size v) t → Err TableWrong ≡ table_verdict v t
+      header-wrong h = refused (table_parts t ∙ rw (← h))
 
-      module _ (right : not h ≡ false) (n : ℕ) (en : n ≡ be (gets t 5 2))
-          (r : Bool) (er : r ≡ legal_runs v (legal_cell v) (pieces (cell_size v) n (take (length t - header_size) (drop header_size t)))) where
-        cells : r ≡ legal_runs v (legal_cell v) (cell_runs v t)
-        cells = er ∙ rw (take_rest, count t h eh right n en)
+      module _ (h : true ≡ legal_header (cell_size v) t) (n : ℕ) (en : n ≡ be (gets t 5 2))
+          {r : Bool} (er : r ≡ legal_runs v (legal_cell v) (pieces (cell_size v) n (take (length t - header_size) (drop header_size t)))) where
+        cells : legal_table v t ≡ r
+        cells = table_parts t ∙ rw (← h, ← count t h n en, ← take_rest) (sym er)
 
-        pub cells-wrong : not r ≡ true → Err TableWrong ≡ table_verdict v t
-        cells-wrong e = refused (table_parts t ∙ rw (← cells, not-true r e, and-false))
+        pub cells-wrong : r ≡ false → Err TableWrong ≡ table_verdict v t
+        cells-wrong e = refused (cells ∙ e)
 
-        pub table_right : not r ≡ false → (Ok tt) ≡ table_verdict v t
+        pub table_right : r ≡ true → (Ok tt) ≡ table_verdict v t
         unfolding table_verdict
-        table_right e = rw (← em, not-false m marked, table_parts t, header t h eh right, ← cells, not-false r e)
+        table_right e = rw (← m, cells, e)

@@ -1,5 +1,7 @@
 -- The parts of "a legal table" that one function tests each, where document 01's definitions in `rules` do not name them. Their conjunctions are those definitions.
-use Rattle.std.specs.Prelude.{Bool, ◌&&◌, List, map, ℕ, ◌+◌, ◌*◌, eqb, leb, length, take, drop}
+use denote.Ref.{Bor}
+use Rattle.std.specs.Prelude.{◌≡◌, Bool, ◌&&◌, List, map, ℕ, ◌+◌, ◌*◌, eqb, leb, length, take, drop}
+use Rattle.std.specs.Fn.{Shared}
 use Rattle.octets.specs.Fields.{field_of}
 use Rattle.rules.specs.Lists.{every, zeros, ascending}
 use Rattle.rules.specs.Layout.{Version, current, places_in_header, zero_in_header, header_fields, places_per_cell, most_areas, header_size, most_cells}
@@ -24,3 +26,7 @@ legal_header size t =
 -- runs of bytes, cells or heads of a version, that f finds legal, strictly ascending by NR CGI
 unfoldable pub legal_runs : Version → (List ℕ → Bool) → List (List ℕ) → Bool
 legal_runs v f bs = every f bs && ascending (map (identity_at v) bs)
+
+-- what a caller asks of each run: each call's answer is what f says of the bytes lent
+abbrev pub IsTest : {F : Type 0} → Shared F (Bor (List ℕ) × Unit {0}) Bool → F → (List ℕ → Bool) → Type 0
+IsTest g legal f = (run : Bor (List ℕ)) (r : Bool) → g.post legal (run, tt) r → r ≡ f run.now

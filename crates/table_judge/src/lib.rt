@@ -1,17 +1,17 @@
 // The judge of a table: each rule of document 01, "The table", is tested where the bytes stand, in one pass.
 #![tactic(auto)]
 
-ghost use Rattle.std.specs.Prelude.{◌≡◌, ◌+◌, ◌*◌, ◌≤◌, length, drop};
+ghost use Rattle.std.specs.Prelude.{true, ◌≡◌, ◌+◌, ◌*◌, ◌<◌, ◌≤◌, length, drop};
 ghost use Rattle.octets.specs.Numbers.{be};
 ghost use Rattle.octets.specs.Runs.{gets, pieces};
 ghost use Rattle.rules.specs.Lists.{larger, every};
-ghost use Rattle.rules.specs.Layout.{current, head_size, place_size, places_per_cell, cell_size};
+ghost use Rattle.rules.specs.Layout.{current, head_size, place_size, places_per_cell, cell_size, cell_end};
 ghost use Rattle.rules.specs.Table.{identity_at, all_areas, legal_head, place_of, is_free, legal_place, legal_places, legal_cell, table_marked};
 ghost use Rattle.rules.specs.Identity.{identity_number};
 ghost use Rattle.rules.specs.Refusals.{table_verdict};
-ghost use Rattle.table_judge.specs.Judge.{legal_areas, legal_live, legal_header, legal_runs};
+ghost use Rattle.table_judge.specs.Judge.{legal_areas, legal_live, legal_header, legal_runs, IsTest};
 
-use octets::{BYTES_32, BYTES_64, get8, get16, get32, get64};
+use octets::{Number, get};
 use rules::layout::{
     AREA, AREAS_AT, AREAS_USED_AT, CELL, CELL_END, CELLS_AT, CONTENT_AT, FILLING_AT, FIRST_SIB,
     HEAD, HEADER, LAST_SIB, LIVE_AT, LONGEST_PERIOD, MOST_CELLS, PERIOD_AT, PLACE, PLACE_SERIAL_AT,
@@ -25,7 +25,7 @@ const SECOND_AREA_AT: usize = AREAS_AT + AREA;
 
 const THIRD_AREA_AT: usize = AREAS_AT + 2 * AREA;
 
-const LAST_FOUR_AT: usize = HEAD - BYTES_32;
+const LAST_FOUR_AT: usize = HEAD - u32::BYTES;
 
 // Above every identifier with its serial number: stands where there is none.
 const NO_TEXT: u64 = 1 << 32;
@@ -40,8 +40,8 @@ pub fn verdict(table: &[u8]) -> Result<(), Refusal>
     if !header_legal(table, CELL) {
         return Err(Refusal::TableWrong);
     }
-    let count = get16(table, CELLS_AT) as usize;
-    if !cells_legal(&table[HEADER..], count) {
+    let count = get::<u16>(table, CELLS_AT) as usize;
+    if !runs_legal(&table[HEADER..], CELL, count, cell_legal) {
         return Err(Refusal::TableWrong);
     }
     Ok(())
@@ -54,7 +54,7 @@ pub fn marked(table: &[u8], version: u8) -> bool
     if table.len() < CELLS_AT {
         return false;
     }
-    (get32(table, 0) == TABLE_MARK * 256) & (get8(table, VERSION_AT + 1) == version)
+    (get::<u32>(table, 0) == TABLE_MARK * 256) & (get::<u8>(table, VERSION_AT + 1) == version)
 }
 
 // The count of cells, the places per cell, the zeros and the exact length, of cells of so many bytes.
@@ -65,33 +65,36 @@ pub fn header_legal(table: &[u8], cell: usize) -> bool
     if table.len() < HEADER {
         return false;
     }
-    let count = get16(table, CELLS_AT) as usize;
+    let count = get::<u16>(table, CELLS_AT) as usize;
     ((1 <= count) & (count <= MOST_CELLS))
-        & (get8(table, PLACES_AT) as usize == PLACES)
-        & (get64(table, ZEROS_AT) == 0)
+        & (get::<u8>(table, PLACES_AT) as usize == PLACES)
+        & (get::<u64>(table, ZEROS_AT) == 0)
         & (table.len() == HEADER + cell * count)
 }
 
-// `least` is the least NR CGI that may follow.
-fn cells_legal(cells: &[u8], count: usize) -> bool
-    requires { length cells.now ≡ cell_size current * count }
-    ensures { result ≡ legal_runs current (legal_cell current) (pieces (cell_size current) count cells.now) }
+// So many runs of one size back to back, cells or heads of some version: each legal by the caller's test, and in order.
+// `least` is the least NR CGI that may follow. The builder and the converter ask this too.
+// Stays: an index and a count, since `chunks_exact` has four instructions more for each cell (32,305 for 30,256 with 512 empty cells), and the
+// count out of the length four for a call.
+pub fn runs_legal<F: Fn(&[u8]) -> bool>(runs: &[u8], size: usize, count: usize, legal: F) -> bool
+    requires heads_whole { head_size current ≤ size }
+    requires runs_whole { length runs.now ≡ size * count }
+    requires may_be_asked { (run : _) → length run.now ≡ size → F.pre legal run }
+    requires has_a_next { (run : _) → F.post legal run true → identity_at current run.now < cell_end }
+    ensures { (test : _) → IsTest F.Fn legal test → result ≡ legal_runs current test (pieces size count runs.now) }
 {
-    let mut at: usize = 0;
-    let mut left = count;
     let mut least = CellIdentity(0);
-    while 0 < left {
-        let end = at + CELL;
-        let identity = identity_at(cells, at);
-        if identity.below(least) {
+    for k in 0..count {
+        let at = size * k;
+        let run = &runs[at..at + size];
+        let identity = identity_at(run, 0);
+        if identity < least {
             return false;
         }
-        if !cell_legal(&cells[at..end]) {
+        if !legal(run) {
             return false;
         }
         least = identity.next();
-        at = end;
-        left -= 1;
     }
     true
 }
@@ -101,7 +104,7 @@ pub fn identity_at(runs: &[u8], at: usize) -> CellIdentity
     requires { at + head_size current ≤ length runs.now }
     ensures { identity_number result ≡ identity_at current (drop at runs.now) }
 {
-    CellIdentity(get64(runs, at))
+    CellIdentity(get::<u64>(runs, at))
 }
 
 fn cell_legal(cell: &[u8]) -> bool
@@ -116,7 +119,7 @@ pub fn head_legal(head: &[u8]) -> bool
     requires { length head.now ≡ head_size current }
     ensures { result ≡ legal_head current head.now }
 {
-    (identity_at(head, 0).0 < CELL_END) & areas_legal(head, get8(head, AREAS_USED_AT))
+    (identity_at(head, 0).0 < CELL_END) & areas_legal(head, get::<u8>(head, AREAS_USED_AT))
 }
 
 // A test for each number of areas: the used ones first and ascending, the rest zero. Each asks no more than it needs.
@@ -125,15 +128,17 @@ fn areas_legal(head: &[u8], used: u8) -> bool
     ensures { result ≡ legal_areas used (all_areas current head.now) }
 {
     if used == 0 {
-        return (get64(head, AREAS_AT) == 0) & (get32(head, LAST_FOUR_AT) == 0);
+        return (get::<u64>(head, AREAS_AT) == 0) & (get::<u32>(head, LAST_FOUR_AT) == 0);
     }
     if used == 1 {
-        return (get8(head, SECOND_AREA_AT) == 0) & (get64(head, SECOND_AREA_AT + 1) == 0);
+        return (get::<u8>(head, SECOND_AREA_AT) == 0) & (get::<u64>(head, SECOND_AREA_AT + 1) == 0);
     }
     let a = upper24(head, AREAS_AT);
     let b = upper24(head, SECOND_AREA_AT);
     if used == 2 {
-        return (a < b) & (get16(head, THIRD_AREA_AT) == 0) & (get32(head, LAST_FOUR_AT) == 0);
+        return (a < b)
+            & (get::<u16>(head, THIRD_AREA_AT) == 0)
+            & (get::<u32>(head, LAST_FOUR_AT) == 0);
     }
     let c = upper24(head, THIRD_AREA_AT);
     let d = lower24(head, LAST_FOUR_AT);
@@ -151,7 +156,7 @@ fn upper24(s: &[u8], at: usize) -> u32
     requires { at + 4 ≤ length s.now }
     ensures { result ≡ be (gets s.now at 3) }
 {
-    get32(s, at) / 256
+    get::<u32>(s, at) / 256
 }
 
 // The number that the last three of four bytes say.
@@ -159,7 +164,7 @@ fn lower24(s: &[u8], at: usize) -> u32
     requires { at + 4 ≤ length s.now }
     ensures { result ≡ be (gets s.now (at + 1) 3) }
 {
-    get32(s, at) % 16777216
+    get::<u32>(s, at) % 16777216
 }
 
 // The converter asks this too. `a`, `b` and `c` are the last three texts: an identifier and a serial number each, as one number.
@@ -173,11 +178,11 @@ pub fn places_legal(places: &[u8]) -> bool
     let mut b = NO_TEXT;
     let mut c = NO_TEXT;
     while 0 < left {
-        if get8(places, at + LIVE_AT) == 0 {
+        if get::<u8>(places, at + LIVE_AT) == 0 {
             return all_free(places, at, left);
         }
         let end = at + PLACE;
-        let text = get32(places, at) as u64;
+        let text = get::<u32>(places, at) as u64;
         if !(live_legal(&places[at..end]) & (text != a) & (text != b) & (text != c)) {
             return false;
         }
@@ -217,16 +222,18 @@ fn place_free(places: &[u8], at: usize) -> bool
     requires { at + place_size current ≤ length places.now }
     ensures { result ≡ is_free (gets places.now at (place_size current)) }
 {
-    (get64(places, at) == 0)
-        & (get64(places, at + BYTES_64) == 0)
-        & (get64(places, at + 2 * BYTES_64) == 0)
+    (get::<u64>(places, at) == 0)
+        & (get::<u64>(places, at + u64::BYTES) == 0)
+        & (get::<u64>(places, at + 2 * u64::BYTES) == 0)
 }
 
 fn live_legal(place: &[u8]) -> bool
     requires { length place.now ≡ place_size current }
     ensures { result ≡ legal_live place.now }
 {
-    (get8(place, LIVE_AT) == 1) & (get16(place, FILLING_AT) == 0) & terms_legal(place_of(place))
+    (get::<u8>(place, LIVE_AT) == 1)
+        & (get::<u16>(place, FILLING_AT) == 0)
+        & terms_legal(place_of(place))
 }
 
 // The place that 24 bytes say.
@@ -235,14 +242,14 @@ fn place_of(place: &[u8]) -> Place
     ensures { result ≡ place_of current place.now }
 {
     Place {
-        identifier: get16(place, 0),
-        serial: get16(place, PLACE_SERIAL_AT),
-        content: get32(place, CONTENT_AT),
-        period: Seconds(get32(place, PERIOD_AT)),
-        requested: Broadcasts(get16(place, REQUESTED_AT)),
-        sent: Broadcasts(get16(place, SENT_AT)),
-        wait: Seconds(get32(place, WAIT_AT)),
-        sib: get8(place, SIB_AT),
+        identifier: get::<u16>(place, 0),
+        serial: get::<u16>(place, PLACE_SERIAL_AT),
+        content: get::<u32>(place, CONTENT_AT),
+        period: Seconds(get::<u32>(place, PERIOD_AT)),
+        requested: Broadcasts(get::<u16>(place, REQUESTED_AT)),
+        sent: Broadcasts(get::<u16>(place, SENT_AT)),
+        wait: Seconds(get::<u32>(place, WAIT_AT)),
+        sib: get::<u8>(place, SIB_AT),
     }
 }
 

@@ -1,7 +1,7 @@
 -- The list of cells: where the walk over its entries starts, and what its end tells. What is gathered is told of the whole list.
 use Rattle.std.specs.Prelude.{Option, Some, None}
 use mathlib.Core.Path.{◌≡◌, refl, sym, ap, ◌∙◌}
-use mathlib.Core.Bool.{Bool, true, false, ◌&&◌, ◌||◌}
+use mathlib.Core.Bool.{Bool, true, false, not, ◌&&◌, ◌||◌}
 use mathlib.Core.List.{List, [], ◌∷◌}
 use Prim.Native.Nat.{ℕ, ◌+◌, ◌-◌, ◌<◌, ◌≤◌}
 use native.Mathlib.Omega.{arith}
@@ -10,21 +10,23 @@ use lib.Seq.{drop-cons}
 use borrow.Author.Tests.{lt-ltb, le-ltb, ltb-true, ltb-false, le-leb, lt-leb}
 use Rattle.octets.specs.Runs.{gets}
 use Rattle.octets.specs.Numbers.{be}
-use lib.Dec.{ltb, leb}
+use lib.Dec.{eqb, ltb, leb}
+use Rattle.rules.specs.Layout.{cell_end}
 use Rattle.rules.specs.Lists.{any, above, ascending}
 use Rattle.rules.proofs.TestLaws.{or_assoc, or-false, and_assoc, and_with-true, by_test}
 use Rattle.formats.specs.Summary.{summed, gathered}
 use Rattle.formats.specs.Format.{Found, nothing, found, after, all_of, behind, only, as_if, several, times}
 use Rattle.formats.proofs.ReadLaws.{number_cut, number-found}
-use Rattle.formats.proofs.WalkLaws.{Walking, counted_starts, counted_breaks, counted-goes}
+use Rattle.formats.proofs.WalkLaws.{Walking, counted_starts, counted_breaks, counted-goes, counted_ends}
 use Rattle.aper.specs.Elements.{Element, from_one}
 use Rattle.wire.specs.Cells.{Entry, entry_element, most_listed, list}
 use Rattle.wire.specs.Messages.{the_cells}
 use Rattle.wire.specs.MessageTree.{cells, contents_by}
 use Rattle.wire.specs.MessageRefusals.{rejects_entry, foreign_entry}
-use Rattle.wire.specs.Readers.{kept, number_of_entry, entry_numbers, marks_of, entry_by, EntriesCounted, EntryAt, Tells}
+use Rattle.wire.specs.Readers.{kept, number_of_entry, entry_numbers, marks_of, entry_by, EntriesCounted, EntryAt, Tells, ListedAt, WalkedBy}
 use Rattle.wire.specs.declared.Message.{Message}
 use Rattle.wire.specs.declared.list.Listed.{Listed}
+use Rattle.wire.specs.declared.Marks.{Marks}
 use Rattle.wire.specs.declared.Heard.{Heard}
 use Rattle.wire.specs.declared.Heard.TheVariants.{Cells}
 
@@ -156,3 +158,76 @@ module _ (m : Message) (l : List ℕ) where
     list_fine h =
         let all : length l ≤ at = omega arith in
         sym (tells (found s (drop at l)) e ∙ ap (λ (r : List ℕ). summed as_cells (all_of (found s r) [])) (drop_of_length-le l all))
+
+-- ---- the same where each entry is to be an item without extensions: none is marked reject then, and each is a cell's
+
+-- a const parameter as it stands in clauses
+abbrev pub switch : ℕ → Bool
+switch n = not (eqb n 0)
+
+module _ (plain : Bool) (m : Message) (l : List ℕ) (at : ℕ) where
+  pub listed_plain : {end identity : ℕ} → (let r : Option Listed = Some (record { end = end; rejected = false; foreign = false; identity = identity }) in EntryAt m l at r → ListedAt plain m l at r)
+  listed_plain {end} {identity} read = both plain
+    where
+      both : (p : Bool) → ListedAt p m l at (Some (record { end = end; rejected = false; foreign = false; identity = identity }))
+      both true = (read, refl, refl)
+      both false = read
+
+pub listed_any : (n : ℕ) (m : Message) (l : List ℕ) (at : ℕ) (r : Option Listed) → n ≡ 0 → EntryAt m l at r → ListedAt (switch n) m l at r
+listed_any n m l at r e read = rw e read
+
+abbrev pub Unmarked : Bool → Marks → Type 0
+Unmarked true r = (r.rejected ≡ false) × (r.foreign ≡ false)
+Unmarked false r = Unit {0}
+
+module _ (m : Message) (l : List ℕ) where
+  -- of n entries k were read, up to an index, and these marks were gathered of them
+  pub record PlainWalk (plain : Bool) (n k at : ℕ) (r : Marks) (least : ℕ) : Type 0 where
+    pub walk : ListWalk m l n k at (r.rejected, (r.foreign, (r.ascends, least)))
+    pub unmarked : Unmarked plain r
+
+  unmarked_first : (plain : Bool) → Unmarked plain (record { rejected = false; foreign = false; ascends = true })
+  unmarked_first true = (refl, refl)
+  unmarked_first false = tt
+
+  pub walk_starts : (plain : Bool) (n : ℕ) → EntriesCounted l (Some n) → PlainWalk plain n 0 2 (record { rejected = false; foreign = false; ascends = true }) 0
+  walk_starts plain n read = record { walk = list-start m l n read; unmarked = unmarked_first plain }
+
+  -- of what is no list, or is not looked for, it tells nothing
+  pub nothing_told : (plain : Bool) → Tells (contents_by m the_cells) l None → WalkedBy plain m l None
+  nothing_told true t = tt
+  nothing_told false t = t
+
+  entry_read : (plain : Bool) (at : ℕ) (r : Listed) → ListedAt plain m l at (Some r) → EntryAt m l at (Some r)
+  entry_read true at r read = read.0
+  entry_read false at r read = read
+
+  pub entry_small : (plain : Bool) (at : ℕ) (r : Listed) → ListedAt plain m l at (Some r) → r.identity < cell_end
+  entry_small plain at r read = (entry_read plain at r read).lies.1
+
+  unmarked_next : (plain : Bool) (at : ℕ) (s : Marks) (r : Listed) (a : Bool) → Unmarked plain s → ListedAt plain m l at (Some r)
+      → Unmarked plain (record { rejected = s.rejected || r.rejected; foreign = s.foreign || r.foreign; ascends = a })
+  unmarked_next true at s r a u read = (rw (u.0, read.1) refl, rw (u.1, read.2) refl)
+  unmarked_next false at s r a u read = tt
+
+  module _ {plain : Bool} {n k at least : ℕ} {s : Marks} (w : PlainWalk plain n k at s least) where
+    pub walk_breaks_lem : k < n → ListedAt plain m l at None → WalkedBy plain m l None
+    walk_breaks_lem some read = broken plain read
+      where
+        broken : (p : Bool) → ListedAt p m l at None → WalkedBy p m l None
+        broken true read = tt
+        broken false read = list_breaks m l w.walk some read
+
+    pub walk_next : k < n → (r : Listed) → ListedAt plain m l at (Some r)
+        → PlainWalk plain n (k + 1) r.end (record { rejected = s.rejected || r.rejected; foreign = s.foreign || r.foreign; ascends = s.ascends && leb least r.identity }) (r.identity + 1)
+    walk_next some r read = record { walk = list-goes m l w.walk some r (entry_read plain at r read); unmarked = unmarked_next plain at s r (s.ascends && leb least r.identity) w.unmarked read }
+
+    pub walk_behind : n ≤ k → (at ≡ length l → ⊥) → WalkedBy plain m l None
+    walk_behind done other = nothing_told plain (list-behind m l _ at (counted_ends w.walk done) w.walk.within other)
+
+    pub walk_whole : n ≤ k → at ≡ length l → WalkedBy plain m l (Some s)
+    walk_whole done e = whole plain (list_fine m l _ at (counted_ends w.walk done) e) w.unmarked
+      where
+        whole : (p : Bool) → Tells (contents_by m the_cells) l (Some (Cells s)) → Unmarked p s → WalkedBy p m l (Some s)
+        whole true t u = (t, u.0, u.1)
+        whole false t u = t

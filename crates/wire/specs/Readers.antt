@@ -132,7 +132,18 @@ heard_by None = nothing
 abbrev pub Tells : Format Contents → List ℕ → Option Heard → Type 0
 Tells f l r = heard_by r ≡ all_of (summed kept (f.parse l)) []
 
+-- the same of an entry where it is to be an item without extensions; of any other nothing is said
+abbrev pub ListedAt : Bool → Message → List ℕ → ℕ → Option Listed → Type 0
+ListedAt false m l at r = EntryAt m l at r
+ListedAt true m l at (Some r) = EntryAt m l at (Some r) × (r.rejected ≡ false) × (r.foreign ≡ false)
+ListedAt true m l at None = Unit {0}
+
 -- a list of items without extensions alone; of any other list nothing is said
 abbrev pub PlainList : Message → List ℕ → Option Marks → Type 0
 PlainList m l (Some r) = Tells (contents_by m the_cells) l (Some (Cells r)) × (r.rejected ≡ false) × (r.foreign ≡ false)
 PlainList m l None = Unit {0}
+
+-- a list where its items are to have no extensions, and any list
+abbrev pub WalkedBy : Bool → Message → List ℕ → Option Marks → Type 0
+WalkedBy true m l r = PlainList m l r
+WalkedBy false m l r = Tells (contents_by m the_cells) l (list_heard r)

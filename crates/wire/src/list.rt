@@ -2,11 +2,11 @@
 ghost use Rattle.std.specs.Prelude.{◌≡◌, ◌≤◌, length};
 ghost use Rattle.wire.specs.Messages.{the_cells};
 ghost use Rattle.wire.specs.MessageTree.{contents_by};
-ghost use Rattle.wire.specs.Readers.{ItemGraded, GradeLies, plain_head, PlainItem, EntriesCounted, PlainList, EntryAt, Tells, list_heard};
+ghost use Rattle.wire.specs.Readers.{ItemGraded, GradeLies, plain_head, PlainItem, EntriesCounted, ListedAt, WalkedBy, PlainList, Tells, list_heard};
 
 use crate::form::{IDENTITY_AT, IDENTITY_END, LISTED_HEAD};
 use crate::{Marks, Message, identity_at};
-use aper::{CRITICALITIES, Element, REJECT, element_at, given_at};
+use aper::{Criticality, Element, element_at, given_at};
 use octets::get;
 
 // The last byte of NR CGI, of which four bits are padding; in the list it stands behind the head of its entry.
@@ -75,11 +75,12 @@ fn plain_item(m: Message, plain: u32, s: &[u8], at: usize) -> bool
     (head / 65536 * 65536 + head % 16384 == plain) & (flags == 0) & (last % 16 == 0)
 }
 
-// The entry of the list at an index. An item's bytes are lent on; another element is not looked into, and is never skipped.
-fn entry_at(m: Message, plain: u32, s: &[u8], at: usize) -> Option<Listed>
+// The entry of the list at an index. An item's bytes are lent on; another element is not looked into, and is never skipped. Where PLAIN, only an item as most
+// are is looked for.
+fn entry_at<const PLAIN: bool>(m: Message, plain: u32, s: &[u8], at: usize) -> Option<Listed>
     requires plain_value { plain ≡ plain_head m }
     requires at_in_bounds { at ≤ length s.now }
-    ensures { EntryAt m s.now at result }
+    ensures { ListedAt PLAIN m s.now at result }
 {
     if plain_item(m, plain, s, at) {
         return Some(Listed {
@@ -88,6 +89,9 @@ fn entry_at(m: Message, plain: u32, s: &[u8], at: usize) -> Option<Listed>
             foreign: false,
             identity: identity_at(s, at + LISTED_HEAD + IDENTITY_AT),
         });
+    }
+    if PLAIN {
+        return None;
     }
     let Element {
         id,
@@ -104,12 +108,10 @@ fn entry_at(m: Message, plain: u32, s: &[u8], at: usize) -> Option<Listed>
             identity,
         });
     }
-    if CRITICALITIES <= criticality {
-        return None;
-    }
+    let criticality = Criticality::try_from(criticality).ok()?;
     Some(Listed {
         end,
-        rejected: criticality == REJECT,
+        rejected: criticality == Criticality::Reject,
         foreign: true,
         identity: 0,
     })
@@ -129,9 +131,9 @@ fn entry_count(s: &[u8]) -> Option<usize>
     Some(last + 1)
 }
 
-// What the list tells. `least` is the least number that the next cell may have, where cells ascend.
-pub fn told(m: Message, s: &[u8]) -> Option<Marks>
-    ensures { Tells (contents_by m the_cells) s.now (list_heard result) }
+// What the list tells, of items as most are alone where PLAIN. `least` is the least number that the next cell may have, where cells ascend.
+fn walked<const PLAIN: bool>(m: Message, s: &[u8]) -> Option<Marks>
+    ensures { WalkedBy PLAIN m s.now result }
 {
     let count = entry_count(s)?;
     let plain = m.plain_head();
@@ -143,7 +145,7 @@ pub fn told(m: Message, s: &[u8]) -> Option<Marks>
     };
     let mut least: u64 = 0;
     for _ in 0..count {
-        let entry = entry_at(m, plain, s, at)?;
+        let entry = entry_at::<PLAIN>(m, plain, s, at)?;
         marks = Marks {
             rejected: marks.rejected | entry.rejected,
             foreign: marks.foreign | entry.foreign,
@@ -158,32 +160,18 @@ pub fn told(m: Message, s: &[u8]) -> Option<Marks>
     Some(marks)
 }
 
-// A list of items without extensions alone, as most are. Of any other nothing is said.
+// What any list tells.
+pub fn told(m: Message, s: &[u8]) -> Option<Marks>
+    ensures { Tells (contents_by m the_cells) s.now (list_heard result) }
+{
+    walked::<false>(m, s)
+}
+
+// What a list of items without extensions tells, as most are. Of any other nothing is said.
 pub fn plain_list(m: Message, s: &[u8]) -> Option<Marks>
     ensures { PlainList m s.now result }
 {
-    let count = entry_count(s)?;
-    let plain = m.plain_head();
-    let mut at: usize = 2;
-    let mut ascends = true;
-    let mut least: u64 = 0;
-    for _ in 0..count {
-        if !plain_item(m, plain, s, at) {
-            return None;
-        }
-        let identity = identity_at(s, at + LISTED_HEAD + IDENTITY_AT);
-        ascends = ascends & (least <= identity);
-        least = identity + 1;
-        at += LISTED_HEAD + IDENTITY_END + m.count_size();
-    }
-    if at != s.len() {
-        return None;
-    }
-    Some(Marks {
-        rejected: false,
-        foreign: false,
-        ascends,
-    })
+    walked::<true>(m, s)
 }
 
 // What the list tells; most are seen to be plain.

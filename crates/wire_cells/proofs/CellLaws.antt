@@ -1,7 +1,8 @@
 -- An item in its bytes: its NR CGI is the eight bytes behind the first, without the last four bits, which are padding; its count stands behind NR CGI's
 -- extensions.
+use Rattle.std.specs.Prelude.{Some, None}
 use mathlib.Core.Path.{◌≡◌, refl, sym, ap, ◌∙◌}
-use mathlib.Core.Bool.{Bool, true, false}
+use mathlib.Core.Bool.{true, false}
 use mathlib.Core.List.{List}
 use Prim.Native.Nat.{ℕ, ◌*◌, ◌/◌, ◌%◌, ◌+◌, ◌^◌, ◌≤◌}
 use native.Mathlib.Omega.{arith}
@@ -21,7 +22,7 @@ use Rattle.formats.proofs.SummaryLaws.{nothing-found, found-value, found-rest}
 use Rattle.formats.specs.Summary.{summed}
 use Rattle.aper.specs.Elements.{Extensions, given, marked}
 use Rattle.aper.specs.Readers.{GivenAt}
-use Rattle.aper.specs.declared.Run.TheVariants.{Upto, NoRun}
+use Rattle.aper.specs.declared.Extensions.{Extensions as Run}
 use Rattle.wire.specs.Messages.{count_size}
 use Rattle.wire.specs.Cells.{Item, flag_fields, cell_fields, ItemHead, item_head, behind_head, item_under, item}
 use Rattle.wire.specs.declared.Message.{Message}
@@ -145,21 +146,21 @@ module _ (m : Message) (s r : List ℕ) (bytes : Bytes s) (i : Item) (e : (item 
       ap (given flag).parse head.1 ∙ ap (λ (n : ℕ). (given n).parse under.rest) bit ∙ counted.extended
 
   -- NR CGI's extensions end where the count begins
-  pub count-there : GivenAt s 9 flag NoRun → ⊥
+  pub count-there : GivenAt s 9 flag None → ⊥
   count-there read = nothing-found (any marked counted.cell_extensions) counted.next (read.says ∙ ap (summed (any marked)) extended)
 
-  module _ (next : ℕ) (g : Bool) (read : GivenAt s 9 flag (Upto next g)) where
-    starts : drop next s ≡ counted.next
-    starts = found-rest g (any marked counted.cell_extensions) (drop next s) counted.next (read.says ∙ ap (summed (any marked)) extended)
+  module _ (own : Run) (read : GivenAt s 9 flag (Some own)) where
+    starts : drop own.end s ≡ counted.next
+    starts = found-rest own.rejected (any marked counted.cell_extensions) (drop own.end s) counted.next (read.says ∙ ap (summed (any marked)) extended)
 
-    here : (number (count_size m)).parse (drop next s) ≡ found i.count counted.behind_it
+    here : (number (count_size m)).parse (drop own.end s) ≡ found i.count counted.behind_it
     here = ap (number (count_size m)).parse starts ∙ counted.counted
 
-    pub count-within : next + count_size m ≤ length s
+    pub count-within : own.end + count_size m ≤ length s
     count-within =
-        by_test (ltb (length s) (next + count_size m))
-        (λ t. absurd (nothing-found i.count counted.behind_it (sym (number_cut s next (count_size m) (next + count_size m) refl read.lies (ltb-true (length s) (next + count_size m) t)) ∙ here)))
-        (λ t. ltb-false (length s) (next + count_size m) t)
+        by_test (ltb (length s) (own.end + count_size m))
+        (λ t. absurd (nothing-found i.count counted.behind_it (sym (number_cut s own.end (count_size m) (own.end + count_size m) refl read.lies (ltb-true (length s) (own.end + count_size m) t)) ∙ here)))
+        (λ t. ltb-false (length s) (own.end + count_size m) t)
 
-    pub item_count_lem : be (gets s next (count_size m)) ≡ i.count
-    item_count_lem = found-value (be (gets s next (count_size m))) i.count (drop (next + count_size m) s) counted.behind_it (sym (number-found s next (count_size m) (next + count_size m) refl count-within) ∙ here)
+    pub item_count_lem : be (gets s own.end (count_size m)) ≡ i.count
+    item_count_lem = found-value (be (gets s own.end (count_size m))) i.count (drop (own.end + count_size m) s) counted.behind_it (sym (number-found s own.end (count_size m) (own.end + count_size m) refl count-within) ∙ here)

@@ -1,5 +1,7 @@
 -- An entry of the list at an index, read with no look into it: where the list is whole and has no foreign item, its bytes are a cell's item.
-use mathlib.Core.Path.{◌≡◌, sym, ap, ◌∙◌}
+use Rattle.std.specs.Prelude.{Option, Some, None}
+use Rattle.std.specs.Option.{IsSome}
+use mathlib.Core.Path.{◌≡◌, refl, sym, ap, ◌∙◌}
 use mathlib.Core.Bool.{true, false, cond, false≢true}
 use mathlib.Core.List.{List, [], ◌∷◌}
 use Prim.Native.Nat.{ℕ, ◌+◌, ◌-◌, ◌/◌, ◌≤◌}
@@ -17,8 +19,7 @@ use Rattle.formats.specs.Summary.{summed}
 use Rattle.formats.proofs.SummaryLaws.{nothing-found, found-value, found-rest}
 use Rattle.aper.specs.Elements.{Element, proper, element_of}
 use Rattle.aper.specs.Readers.{LengthAt, ElementAt}
-use Rattle.aper.specs.declared.Length.TheVariants.{Of, NoLength}
-use Rattle.aper.specs.declared.Step.TheVariants.{One, NoElement}
+use Rattle.aper.specs.declared.Length.{Length}
 use Rattle.aper.proofs.ElementLaws.{looked_into_lem}
 use Rattle.aper.proofs.StepLaws.{head-there, length-there, by_length}
 use Rattle.wire.specs.Cells.{Item, Entry, listed, foreign, is_item, item, entry, entry_element}
@@ -63,23 +64,24 @@ abbrev one_row : (identity count : ℕ) → List Row
 one_row identity count = record { identity = identity; count = count; content = 0 } ∷ []
 
 module _ (m : Message) (l : List ℕ) (at : ℕ) where
-  entry-none : ElementAt l at NoElement → (entry_element m).parse (drop at l) ≡ nothing
+  entry-none : ElementAt l at None → (entry_element m).parse (drop at l) ≡ nothing
   unfolding element_of only
   entry-none read = rw (looked_into_lem (entry m) (drop at l), sym read.says)
 
   module _ (o : OwnEntry m l at) where
-    an_entry : ElementAt l at NoElement → ⊥
+    an_entry : ElementAt l at None → ⊥
     an_entry read = nothing-found o.entry o.rest (sym (entry-none read) ∙ o.there)
 
     pub entry-head : at + 3 ≤ length l
     entry-head = head-there l at o.within an_entry
 
-    pub entry_length : LengthAt l (at + 3) NoLength → ⊥
-    entry_length read = length-there l at o.within an_entry read
+    pub entry_length : (r : Option Length) → LengthAt l (at + 3) r → IsSome r
+    entry_length (Some it) read = refl
+    entry_length None read = absurd (length-there l at o.within an_entry read)
 
-    module _ (n start : ℕ) (size : LengthAt l (at + 3) (Of n start)) where
+    module _ (it : Length) (size : LengthAt l (at + 3) (Some it)) where
       abbrev end : ℕ
-      end = start + n
+      end = it.start + it.of
 
       abbrev id : ℕ
       id = be (gets l at 2)
@@ -87,15 +89,15 @@ module _ (m : Message) (l : List ℕ) (at : ℕ) where
       abbrev criticality : ℕ
       criticality = be (gets l (at + 2) 1) / 64
 
-      read : ElementAt l at (One id criticality start end)
-      read = by_length l at o.within an_entry n start size
+      read : ElementAt l at (Some (record { id = id; criticality = criticality; start = it.start; end = end }))
+      read = by_length l at o.within an_entry it size
 
-      pub entry-within : (start ≤ end) × (end ≤ length l)
+      pub entry-within : (it.start ≤ end) × (end ≤ length l)
       entry-within = (read.lies.2, read.lies.1)
 
       -- the item's own bytes
       abbrev pub held : List ℕ
-      held = take (end - start) (drop start l)
+      held = take (end - it.start) (drop it.start l)
 
       abbrev made : Entry → Element Entry
       made x = record { id = id; criticality = criticality; contents = x }
@@ -115,22 +117,22 @@ module _ (m : Message) (l : List ℕ) (at : ℕ) where
 
       module _ (bytes : Bytes l) where
         held_bytes : Bytes held
-        held_bytes = bytes_take (end - start) (drop start l) (bytes_drop start l bytes)
+        held_bytes = bytes_take (end - it.start) (drop it.start l) (bytes_drop it.start l bytes)
 
-        held-size : length held ≡ n
+        held-size : length held ≡ it.of
         held-size =
-            let within : end - start ≤ length (drop start l) = rw length-drop (omega (arith, entry-within.1)) in
-            length-take-le (end - start) (drop start l) within ∙ omega arith
+            let within : end - it.start ≤ length (drop it.start l) = rw length-drop (omega (arith, entry-within.1)) in
+            length-take-le (end - it.start) (drop it.start l) within ∙ omega arith
 
-        pub entry-long : start + 9 ≤ end
+        pub entry-long : it.start + 9 ≤ end
         entry-long = omega (arith, held-size, item-long m held [] held_bytes entry-item.it entry-item.reads)
 
-        eight : gets held 1 8 ≡ gets l (start + 1) 8
+        eight : gets held 1 8 ≡ gets l (it.start + 1) 8
         eight =
-            let run : held ≡ gets l start (end - start) = sym (gets_eq (end - start) l start (omega (arith, entry-within.1))) in
-            ap (λ (s : List ℕ). gets s 1 8) run ∙ gets-gets 8 (end - start) l start 1 (omega (arith, entry-long))
+            let run : held ≡ gets l it.start (end - it.start) = sym (gets_eq (end - it.start) l it.start (omega (arith, entry-within.1))) in
+            ap (λ (s : List ℕ). gets s 1 8) run ∙ gets-gets 8 (end - it.start) l it.start 1 (omega (arith, entry-long))
 
-        pub cell-there : (c : Cell) → c.identity.0 ≡ be (gets l (start + 1) 8) / 16 → summed (λ (i : Item). i.count) ((item m).parse held) ≡ found c.count.0 [] → c.end ≡ end
+        pub cell-there : (c : Cell) → c.identity.0 ≡ be (gets l (it.start + 1) 8) / 16 → summed (λ (i : Item). i.count) ((item m).parse held) ≡ found c.count.0 [] → c.end ≡ end
             → CellAt m l at c
         unfolding ours entry-item
         cell-there c identity count ends = record { says = whole; ends = omega (arith, ends, entry-within.1) }

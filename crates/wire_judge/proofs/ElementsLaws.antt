@@ -1,4 +1,5 @@
 -- The walk over a message's elements: where it starts, what it keeps between two of them, and what its end says.
+use Rattle.std.specs.Prelude.{Some, None}
 use mathlib.Core.Path.{◌≡◌, refl, sym, ap, ◌∙◌}
 use mathlib.Core.List.{List, [], flat_map}
 use Prim.Native.Nat.{ℕ, ◌-◌, ◌<◌, ◌≤◌}
@@ -25,8 +26,6 @@ use Rattle.wire.specs.declared.Message.{Message}
 use Rattle.wire_judge.specs.Account.{Account, open_account, accounted, list_at, account_by, Lies}
 use Rattle.wire_judge.specs.Readers.{nothing_seen, TurnAt, WalkedOver}
 use Rattle.wire_judge.specs.declared.Seen.{Seen}
-use Rattle.wire_judge.specs.declared.Turn.TheVariants.{Next, NoTurn}
-use Rattle.wire_judge.specs.declared.Walk.TheVariants.{Whole, Broken}
 
 -- ---- before the first
 
@@ -51,18 +50,18 @@ module _ (m : Message) (l : List ℕ) where
     pub walking : Walking (element m) accounted Goal l left at (account_by m l s)
     pub lies : Lies m l s
 
-  walk_none : Goal ≡ nothing → WalkedOver m l Broken
+  walk_none : Goal ≡ nothing → WalkedOver m l None
   walk_none e = record { says = ap (λ (x : Found Account). all_of x []) (sym e); lies = tt }
 
   value-long : (es : Elements) → 3 ≤ length ((value m).encode es)
   unfolding value as_if pair bits only number elements_of behind
   value-long es = simp (length-append, length-to_be) (omega arith)
 
-  pub walk-short : Bytes l → length l < 3 → WalkedOver m l Broken
+  pub walk-short : Bytes l → length l < 3 → WalkedOver m l None
   walk-short bytes h = walk_none (ap (summed (gathered accounted open_account)) (too_short (value m) (value_lawful m) 3 value-long l bytes h))
 
   module _ (b : ℕ) (long : 3 ≤ length l) (first : b ≡ be (gets l 0 1)) where
-    pub walk-extended : (b ≡ 0 → ⊥) → WalkedOver m l Broken
+    pub walk-extended : (b ≡ 0 → ⊥) → WalkedOver m l None
     walk-extended other = walk_none (ap (summed (gathered accounted open_account)) bad)
       where
         bad : (value m).parse l ≡ nothing
@@ -85,18 +84,18 @@ module _ (m : Message) (l : List ℕ) where
         }
 
   module _ {left at : ℕ} {s : Seen} (going : Going left at s) where
-    pub turn_broken : 0 < left → TurnAt m l at s NoTurn → WalkedOver m l Broken
+    pub turn_broken : 0 < left → {end : ℕ} → TurnAt m l at s end None → WalkedOver m l None
     turn_broken some turn = walk_none (walk_breaks going.walking some (sym turn.says))
 
-    pub turn_on : 0 < left → (t : Seen) (end : ℕ) → TurnAt m l at s (Next t end) → Going (left - 1) end t
-    turn_on some t end turn = record { walking = walk-goes going.walking some (account_by m l t) end (sym turn.says) turn.lies.0; lies = turn.lies.1 }
+    pub turn_on : 0 < left → {later : ℕ} → later ≡ left - 1 → (t : Seen) (end : ℕ) → TurnAt m l at s end (Some t) → Going later end t
+    turn_on some less t end turn = rw less (record { walking = walk-goes going.walking some (account_by m l t) end (sym turn.says) turn.lies.0; lies = turn.lies.1 })
 
-    pub walk-behind : left ≤ 0 → (at ≡ length l → ⊥) → WalkedOver m l Broken
+    pub walk-behind : left ≤ 0 → (at ≡ length l → ⊥) → WalkedOver m l None
     walk-behind none other =
         let more : at < length l = omega (arith, other, going.walking.within) in
         record { says = sym (ap (λ (x : Found Account). all_of x []) (walk_ends going.walking none ∙ ap (found (account_by m l s)) (drop-cons l at 0 more))); lies = tt }
 
-    pub walk-whole : left ≤ 0 → at ≡ length l → WalkedOver m l (Whole s)
+    pub walk-whole : left ≤ 0 → at ≡ length l → WalkedOver m l (Some s)
     walk-whole none end =
         let all : length l ≤ at = omega arith in
         record { says = sym (ap (λ (x : Found Account). all_of x []) (walk_ends going.walking none ∙ ap (found (account_by m l s)) (drop_of_length-le l all))); lies = going.lies }

@@ -1,6 +1,7 @@
 -- The frame, read as an element: choice and procedure code stand where an element has its id, and of a choice-extension the id stands behind the choice.
 -- Both are a criticality and an open type behind that.
-use mathlib.Core.Path.{◌≡◌, refl, sym, ap, ◌∙◌}
+use Rattle.std.specs.Prelude.{Option, Some, None, Ok, Err}
+use mathlib.Core.Path.{◌≡◌, refl, sym, ap, subst, ◌∙◌}
 use mathlib.Core.Bool.{true, false, cond, ◌&&◌}
 use mathlib.Core.List.{List, []}
 use Prim.Native.Nat.{ℕ, ◌+◌, ◌-◌, ◌*◌, ◌/◌, ◌%◌, ◌<◌, ◌≤◌}
@@ -19,15 +20,14 @@ use Rattle.formats.proofs.SummaryLaws.{nothing-found, found-value}
 use Rattle.formats.proofs.ReadLaws.{number_cut, number-found}
 use Rattle.aper.specs.Elements.{open_type, Element, two_bits, head, under, holding, plain}
 use Rattle.aper.specs.Readers.{ElementAt}
-use Rattle.aper.specs.declared.Step.{Step}
-use Rattle.aper.specs.declared.Step.TheVariants.{One, NoElement}
+use Rattle.aper.specs.declared.Element.{Element as Placed}
 use Rattle.aper.proofs.Once.{element_settled}
 use Rattle.wire.specs.Messages.{choice_of, code_of, frame_id}
 use Rattle.wire.specs.Frame.{Frame, code_size, frame_criticality, frame_under, frame, outer}
 use Rattle.wire.specs.declared.Message.{Message}
 use Rattle.wire.specs.declared.Message.TheVariants.{CancelRequest, CancelResponse, WriteReplaceResponse}
-use Rattle.wire_judge.specs.Readers.{is_own, NotOwn, ours, FramedAs}
-use Rattle.wire_judge.specs.declared.Framed.TheVariants.{This, Another, NoFrame}
+use Rattle.wire_judge.specs.Readers.{is_own, NotOwn, ours, FramedBy, FramedAs}
+use Rattle.rules.specs.declared.Refusal.TheVariants.{BadEncoding, OtherMessage}
 
 -- ---- behind an id: a criticality and an open type
 
@@ -88,25 +88,28 @@ module _ (m : Message) (l : List ℕ) (at choice code : ℕ) (framed : outer.par
   answers : (x : Found (Frame (List ℕ))) → outer.parse l ≡ x → all_of (summed (ours m) x) [] ≡ all_of (summed (ours m) (outer.parse l)) []
   answers x e = ap (λ (y : Found (Frame (List ℕ))). all_of (summed (ours m) y) []) (sym e)
 
-  pub frame-none : ElementAt l at NoElement → FramedAs m l NoFrame
-  frame-none read = record { says = answers nothing (framed ∙ ap (λ (x : Found (Element (List ℕ))). after x (framed_as choice code)) (sym read.says)); lies = tt }
+  none : nothing ≡ all_of (summed (ours m) (outer.parse l)) [] → FramedAs m l (Err BadEncoding)
+  none e = subst (FramedBy l (Err BadEncoding)) e refl
 
-  module _ (id criticality start end : ℕ) (read : ElementAt l at (One id criticality start end)) where
+  pub frame-none : ElementAt l at None → FramedAs m l (Err BadEncoding)
+  frame-none read = none (answers nothing (framed ∙ ap (λ (x : Found (Element (List ℕ))). after x (framed_as choice code)) (sym read.says)))
+
+  module _ (id criticality start end : ℕ) (read : ElementAt l at (Some (record { id = id; criticality = criticality; start = start; end = end }))) where
     this : outer.parse l ≡ cond (ltb criticality 3) (found (frame_by choice code criticality (take (end - start) (drop start l))) (drop end l)) nothing
     unfolding framed_as
     this = framed ∙ ap (λ (x : Found (Element (List ℕ))). after x (framed_as choice code)) (sym read.says)
 
-    pub frame-criticality : 3 ≤ criticality → FramedAs m l NoFrame
-    frame-criticality h = record { says = answers nothing (this ∙ rw (le-ltb criticality 3 h)); lies = tt }
+    pub frame-criticality : 3 ≤ criticality → FramedAs m l (Err BadEncoding)
+    frame-criticality h = none (answers nothing (this ∙ rw (le-ltb criticality 3 h)))
 
     module _ (small : criticality < 3) where
       there : outer.parse l ≡ found (frame_by choice code criticality (take (end - start) (drop start l))) (drop end l)
       there = this ∙ rw (lt-ltb criticality 3 small)
 
-      pub frame-behind : (end ≡ length l → ⊥) → FramedAs m l NoFrame
+      pub frame-behind : (end ≡ length l → ⊥) → FramedAs m l (Err BadEncoding)
       frame-behind other =
           let more : end < length l = omega (arith, other, read.lies.1) in
-          record { says = rw (drop-cons l end 0 more) at (answers (found (frame_by choice code criticality (take (end - start) (drop start l))) (drop end l)) there); lies = tt }
+          none (rw (drop-cons l end 0 more) at (answers (found (frame_by choice code criticality (take (end - start) (drop start l))) (drop end l)) there))
 
       module _ (ends : end ≡ length l) where
         whole : outer.parse l ≡ found (frame_by choice code criticality (drop start l)) []
@@ -115,23 +118,22 @@ module _ (m : Message) (l : List ℕ) (at choice code : ℕ) (framed : outer.par
             let rest : length (drop start l) ≤ end - start = rw length-drop (omega arith) in
             there ∙ rw (drop_of_length-le l all, take_all (end - start) (drop start l) rest)
 
-        frame-ours : choice ≡ choice_of m → code ≡ code_of m → FramedAs m l (This start)
+        frame-ours : choice ≡ choice_of m → code ≡ code_of m → FramedAs m l (Ok start)
         frame-ours p q =
-            record {
-              says = rw (eq-eqb choice (choice_of m) p, eq-eqb code (code_of m) q) at (answers (found (frame_by choice code criticality (drop start l)) []) whole);
-              lies = omega (arith, read.lies.2);
-            }
+            (rw (eq-eqb choice (choice_of m) p, eq-eqb code (code_of m) q) at (answers (found (frame_by choice code criticality (drop start l)) []) whole), omega (arith, read.lies.2))
 
-        pub frame-other : (eqb choice (choice_of m) && eqb code (code_of m)) ≡ false → FramedAs m l Another
-        frame-other t = record { says = rw t at (answers (found (frame_by choice code criticality (drop start l)) []) whole); lies = tt }
+        pub frame-other : (eqb choice (choice_of m) && eqb code (code_of m)) ≡ false → FramedAs m l (Err OtherMessage)
+        frame-other t =
+            let other : found [] [] ≡ all_of (summed (ours m) (outer.parse l)) [] = rw t at (answers (found (frame_by choice code criticality (drop start l)) []) whole) in
+            subst (FramedBy l (Err OtherMessage)) other (refl, refl)
 
 -- ---- the choice
 
 module _ (l : List ℕ) where
-  absent : (m : Message) → outer.parse l ≡ nothing → FramedAs m l NoFrame
-  absent m e = record { says = ap (λ (y : Found (Frame (List ℕ))). all_of (summed (ours m) y) []) (sym e); lies = tt }
+  absent : (m : Message) → outer.parse l ≡ nothing → FramedAs m l (Err BadEncoding)
+  absent m e = subst (FramedBy l (Err BadEncoding)) (ap (λ (y : Found (Frame (List ℕ))). all_of (summed (ours m) y) []) (sym e)) refl
 
-  pub frame-empty : (m : Message) → length l ≡ 0 → FramedAs m l NoFrame
+  pub frame-empty : (m : Message) → length l ≡ 0 → FramedAs m l (Err BadEncoding)
   frame-empty m h = absent m none
     where
       none : outer.parse l ≡ nothing
@@ -141,7 +143,7 @@ module _ (l : List ℕ) where
     byte_found : (number 1).parse l ≡ found b (drop 1 l)
     byte_found = number-found l 0 1 1 refl some ∙ ap (λ (n : ℕ). found n (drop 1 l)) (sym here)
 
-    pub frame-padding : (m : Message) → (b % 64 ≡ 0 → ⊥) → FramedAs m l NoFrame
+    pub frame-padding : (m : Message) → (b % 64 ≡ 0 → ⊥) → FramedAs m l (Err BadEncoding)
     frame-padding m other = absent m none
       where
         none : outer.parse l ≡ nothing
@@ -186,7 +188,7 @@ module _ (l : List ℕ) where
 
 -- ---- the id says choice and code
 
-element-id : (l : List ℕ) (at id criticality start end : ℕ) → at ≤ length l → ElementAt l at (One id criticality start end) → id ≡ be (gets l at 2)
+element-id : (l : List ℕ) (at id criticality start end : ℕ) → at ≤ length l → ElementAt l at (Some (record { id = id; criticality = criticality; start = start; end = end })) → id ≡ be (gets l at 2)
 element-id l at id criticality start end k read = by_test (ltb (length l) (at + 2)) (λ t. absurd (short (ltb-true (length l) (at + 2) t))) (λ t. long (ltb-false (length l) (at + 2) t))
   where
     short : length l < at + 2 → ⊥
@@ -230,14 +232,14 @@ id-padded WriteReplaceResponse b code h e = (omega arith, λ k. omega arith)
 parts_id : (m : Message) (b code : ℕ) → b % 64 ≡ 0 → b / 64 ≡ choice_of m → code ≡ code_of m → b * 256 + code ≡ frame_id m
 parts_id m b code p q r = omega arith
 
-module _ (m : Message) (l : List ℕ) (bytes : Bytes l) (b id criticality start end : ℕ) (some : 1 ≤ length l) (here : b ≡ be (gets l 0 1)) (read : ElementAt l 0 (One id criticality start end)) where
+module _ (m : Message) (l : List ℕ) (bytes : Bytes l) (b id criticality start end : ℕ) (some : 1 ≤ length l) (here : b ≡ be (gets l 0 1)) (read : ElementAt l 0 (Some (record { id = id; criticality = criticality; start = start; end = end }))) where
   two : id ≡ b * 256 + be (gets l 1 1)
   two =
       let all : be (gets l 0 1) * 256 + be (gets l 1 1) ≡ be (gets l 0 2) = be-run 1 1 l 0 1 refl in
       omega (arith, element-id l 0 id criticality start end (omega arith) read, all)
 
   -- a message's own id is enough for its own frame
-  pub frame_id-ours : id ≡ frame_id m → criticality < 3 → end ≡ length l → FramedAs m l (This start)
+  pub frame_id-ours : id ≡ frame_id m → criticality < 3 → end ≡ length l → FramedAs m l (Ok start)
   frame_id-ours e small ends =
       let code : ℕ = be (gets l 1 1) in
       let less : code < 256 = be-gets_lt 1 1 l bytes in
@@ -253,17 +255,17 @@ module _ (m : Message) (l : List ℕ) (bytes : Bytes l) (b id criticality start 
 
   pub other-own : b % 64 ≡ 0 → NotOwn m l → criticality < 3 → end ≡ length l → (eqb (b / 64) (choice_of m) && eqb (be (gets l 1 1)) (code_of m)) ≡ false
   other-own padded not_own small ends =
-      let test = rw (lt-ltb criticality 3 small, eq-eqb end (length l) ends, and_with-true (eqb id (frame_id m)), and_with-true (eqb id (frame_id m))) at (not_own (One id criticality start end) read) in
+      let test = rw (lt-ltb criticality 3 small, eq-eqb end (length l) ends, and_with-true (eqb id (frame_id m)), and_with-true (eqb id (frame_id m))) at (not_own (Some (record { id = id; criticality = criticality; start = start; end = end })) read) in
       other-code padded (eqb-false id (frame_id m) test)
 
 -- the same by one test, as code has it
-pub frame-own : (m : Message) (l : List ℕ) → Bytes l → (id criticality start end : ℕ) → ElementAt l 0 (One id criticality start end) → (own : ℕ) → own ≡ frame_id m
-    → ((eqb id own && ltb criticality 3) && eqb end (length l)) ≡ true → FramedAs m l (This start)
+pub frame-own : (m : Message) (l : List ℕ) → Bytes l → (id criticality start end : ℕ) → ElementAt l 0 (Some (record { id = id; criticality = criticality; start = start; end = end })) → (own : ℕ) → own ≡ frame_id m
+    → ((eqb id own && ltb criticality 3) && eqb end (length l)) ≡ true → FramedAs m l (Ok start)
 frame-own m l bytes id criticality start end read own is t =
     let all = both (eqb id own && ltb criticality 3) (eqb end (length l)) t in
     let front = both (eqb id own) (ltb criticality 3) all.0 in
     let some : 1 ≤ length l = omega (arith, read.lies.0, read.lies.1) in
     frame_id-ours m l bytes (be (gets l 0 1)) id criticality start end some refl read (eqb-true id own front.0 ∙ is) (ltb-true criticality 3 front.1) (eqb-true end (length l) all.1)
 
-pub frame-not-own : (m : Message) (l : List ℕ) (x : Step) → ElementAt l 0 x → is_own m (length l) x ≡ false → NotOwn m l
+pub frame-not-own : (m : Message) (l : List ℕ) (x : Option Placed) → ElementAt l 0 x → is_own m (length l) x ≡ false → NotOwn m l
 frame-not-own m l x read t y also = ap (is_own m (length l)) (element_settled l 0 y x also read) ∙ t

@@ -1,5 +1,5 @@
 -- 13 to 16 of a message: what the frame and the walk over its elements say decides each test, in order.
-use Rattle.std.specs.Prelude.{Ok, Err}
+use Rattle.std.specs.Prelude.{Option, Some, None, Ok, Err}
 use mathlib.Core.Path.{◌≡◌, refl, sym, ap, subst, ◌∙◌}
 use mathlib.Core.Bool.{Bool, true, false, cond, not, ◌&&◌, false≢true}
 use mathlib.Core.List.{List, [], ◌∷◌}
@@ -8,6 +8,7 @@ use native.Mathlib.Omega.{arith}
 use lib.ListN.{length, take, drop, length-drop}
 use lib.Seq.{take_all}
 use Rattle.rules.specs.Lists.{any}
+use Rattle.rules.specs.declared.Refusal.{Refusal}
 use Rattle.rules.specs.declared.Refusal.TheVariants.{BadEncoding, OtherMessage, UnknownElement, ElementsWrong}
 use Rattle.rules.proofs.TestLaws.{both, by_test}
 use Rattle.formats.specs.Format.{Found, nothing, found, after, all_of}
@@ -20,11 +21,8 @@ use Rattle.wire.specs.MessageSaid.{said, said_in}
 use Rattle.wire.proofs.FrameFormat.{with_value, framed_into, frame_into}
 use Rattle.wire.specs.declared.Message.{Message}
 use Rattle.wire_judge.specs.Account.{Account, open_account, accounted, account_by}
-use Rattle.wire_judge.specs.Readers.{ours, FramedAs, WalkedOver, has_all, FitMessage}
+use Rattle.wire_judge.specs.Readers.{ours, FramedBy, FramedAs, WalkedOver, has_all, FitMessage}
 use Rattle.wire_judge.specs.declared.Seen.{Seen}
-use Rattle.wire_judge.specs.declared.Framed.TheVariants.{This, Another, NoFrame}
-use Rattle.wire_judge.specs.declared.Walk.{Walk}
-use Rattle.wire_judge.specs.declared.Walk.TheVariants.{Whole, Broken}
 use Rattle.wire_judge.proofs.AccountLaws.{account_of}
 
 abbrev Framing : Type 0
@@ -90,7 +88,7 @@ module _ (m : Message) where
   -- ---- the verdict
 
   -- all that stands behind the frame is lent on
-  lent : (b : List ℕ) (start : ℕ) (r : Walk) → WalkedOver m (take (length b - start) (drop start b)) r → WalkedOver m (drop start b) r
+  lent : (b : List ℕ) (start : ℕ) (r : Option Seen) → WalkedOver m (take (length b - start) (drop start b)) r → WalkedOver m (drop start b) r
   lent b start r w =
       let rest : length (drop start b) ≤ length b - start = rw length-drop (omega arith) in
       subst (λ (l : List ℕ). WalkedOver m l r) (take_all (length b - start) (drop start b) rest) w
@@ -103,35 +101,40 @@ module _ (m : Message) where
     into : (message m).parse b ≡ Into m (outer.parse b)
     into = frame_into (value m) b
 
-    pub unframed : FramedAs m b NoFrame → message_verdict m b ≡ Err BadEncoding
-    unframed f = bad (neither-whole (not-whole (outer.parse b) f.says))
+    -- no frame, or another message's
+    pub unframed : (x : Refusal) → FramedAs m b (Err x) → message_verdict m b ≡ Err x
+    unframed x f = go (all_of (summed (ours m) (outer.parse b)) []) refl f
       where
         neither-whole : (whole (outer.parse b) ≡ false) × (whole (Into m (outer.parse b)) ≡ false) → well_encoded m b ≡ false
         neither-whole h = unfold well_encoded in by_test (is_this m b) (λ t. rw (t, into) h.1) (λ t. rw t h.0)
 
-    pub another : FramedAs m b Another → message_verdict m b ≡ Err OtherMessage
-    unfolding message_verdict well_encoded is_this
-    another f = let o = others (outer.parse b) f.says in rw (o.1, o.0)
+        another : found [] [] ≡ all_of (summed (ours m) (outer.parse b)) [] → message_verdict m b ≡ Err OtherMessage
+        another e = unfold message_verdict well_encoded is_this in let o = others (outer.parse b) e in rw (o.1, o.0)
 
-    module _ (start : ℕ) (f : FramedAs m b (This start)) where
+        go : (y : Found (List (List ℕ))) → y ≡ all_of (summed (ours m) (outer.parse b)) [] → FramedBy b (Err x) y → message_verdict m b ≡ Err x
+        go nothing e h = rw h (bad (neither-whole (not-whole (outer.parse b) e)))
+        go (found [] r) e h = rw h.0 (another (rw h.1 at e))
+        go (found (c ∷ cs) r) e h = absurd h
+
+    module _ (start : ℕ) (f : FramedAs m b (Ok start)) where
       own : Ours (outer.parse b) (drop start b)
-      own = framed_ours (outer.parse b) (drop start b) f.says
+      own = framed_ours (outer.parse b) (drop start b) f.0
 
       is_this_lem : is_this m b ≡ true
       unfolding is_this
       is_this_lem = own.this
 
-      pub unwalked : WalkedOver m (take (length b - start) (drop start b)) Broken → message_verdict m b ≡ Err BadEncoding
+      pub unwalked : WalkedOver m (take (length b - start) (drop start b)) None → message_verdict m b ≡ Err BadEncoding
       unwalked lent_on =
-          let w = lent b start Broken lent_on in
+          let w = lent b start None lent_on in
           bad (broken_whole (own.broken (summed-nothing (gathered accounted open_account) (all_of ((value m).parse (drop start b)) []) (sym (summed_all (gathered accounted open_account) ((value m).parse (drop start b)) []) ∙ sym w.says))))
         where
           broken_whole : whole (Into m (outer.parse b)) ≡ false → well_encoded m b ≡ false
           broken_whole h = unfold well_encoded in rw (is_this_lem, into) h
 
-      module _ (s : Seen) (lent_on : WalkedOver m (take (length b - start) (drop start b)) (Whole s)) where
-        w : WalkedOver m (drop start b) (Whole s)
-        w = lent b start (Whole s) lent_on
+      module _ (s : Seen) (lent_on : WalkedOver m (take (length b - start) (drop start b)) (Some s)) where
+        w : WalkedOver m (drop start b) (Some s)
+        w = lent b start (Some s) lent_on
 
         -- a message that was walked over is well encoded, and what was seen is the account of its elements
         record Walked (es : Elements) : Type 0 where
@@ -200,7 +203,7 @@ module _ (m : Message) where
             record {
               accepted = by_elements (λ es h. fine_here es h r t);
               says = by_elements (λ es h. says es h);
-              begins = f.lies;
+              begins = f.1;
               lies = w.lies;
               whole = not-true s.lacks (both (s.ordered && has_all m s.identified s.counted) (not s.lacks) t).1;
             }

@@ -1,5 +1,6 @@
 -- An element at an index, on top of what was seen before it: the account that code keeps is the account of the tree.
 -- By what the contents were read as; an id belongs to its contents.
+use Rattle.std.specs.Prelude.{Option, Some, None}
 use mathlib.Core.Path.{◌≡◌, refl, sym, ap, ◌∙◌}
 use mathlib.Core.Bool.{Bool, true, false, cond, ◌||◌, false≢true}
 use mathlib.Core.List.{List, [], ◌∷◌, ◌++◌, flat_map}
@@ -15,7 +16,6 @@ use Rattle.formats.specs.Summary.{summed}
 use Rattle.formats.proofs.SummaryLaws.{nothing-found, found-value, found-rest}
 use Rattle.aper.specs.Elements.{Element, proper, element_of}
 use Rattle.aper.specs.Readers.{ElementAt}
-use Rattle.aper.specs.declared.Step.TheVariants.{One, NoElement}
 use Rattle.aper.proofs.ElementLaws.{looked_into_lem}
 use Rattle.wire.specs.Cells.{Entry, listed, foreign, list}
 use Rattle.wire.specs.Messages.{the_cells, name_of, known, transaction_id, requested_id, cells_id}
@@ -28,9 +28,8 @@ use Rattle.wire.specs.declared.Message.TheVariants.{CancelRequest, CancelRespons
 use Rattle.wire.specs.declared.Heard.{Heard}
 use Rattle.wire.proofs.HeardLaws.{heard-is, heard-none}
 use Rattle.wire_judge.specs.Account.{Account, entered, accounted, list_at, account_by, Lies}
-use Rattle.wire_judge.specs.Readers.{past_of, turn_of, TurnAt}
+use Rattle.wire_judge.specs.Readers.{past_of, turn_of, turn_with, TurnAt}
 use Rattle.wire_judge.specs.declared.Seen.{Seen}
-use Rattle.wire_judge.specs.declared.Turn.TheVariants.{Next, NoTurn}
 use Rattle.wire_judge.proofs.NameLaws.{named, id_of, is_known_lem}
 
 -- a list that was read as cells
@@ -78,13 +77,13 @@ module _ (m : Message) (l : List ℕ) (at : ℕ) (s : Seen) (lies : Lies m l s) 
   abbrev Kept : Found Account
   Kept = summed (accounted (account_by m l s)) ((element m).parse (drop at l))
 
-  pub turn-none : ElementAt l at NoElement → TurnAt m l at s NoTurn
-  turn-none read = record { says = sym none; lies = tt }
+  pub turn-none : ElementAt l at None → (end : ℕ) → TurnAt m l at s end None
+  turn-none read end = record { says = sym none; lies = tt }
     where
       none : Kept ≡ nothing
       none = unfold element_of only in rw (looked_into_lem (contents m) (drop at l), sym read.says)
 
-  module _ (id criticality start end : ℕ) (read : ElementAt l at (One id criticality start end)) where
+  module _ (id criticality start end : ℕ) (read : ElementAt l at (Some (record { id = id; criticality = criticality; start = start; end = end }))) where
     abbrev held : List ℕ
     held = take (end - start) (drop start l)
 
@@ -102,7 +101,7 @@ module _ (m : Message) (l : List ℕ) (at : ℕ) (s : Seen) (lies : Lies m l s) 
     unfolding looked proper
     step x e = seen ∙ ap (λ (y : Found Contents). looked (all_of y (drop end l))) e
 
-    broken : (x : Found Contents) → (contents m id).parse held ≡ x → all_of x (drop end l) ≡ nothing → TurnAt m l at s NoTurn
+    broken : (x : Found Contents) → (contents m id).parse held ≡ x → all_of x (drop end l) ≡ nothing → TurnAt m l at s end None
     broken x e n = record { says = sym (ap (summed (accounted (account_by m l s))) none); lies = tt }
       where
         none : (element m).parse (drop at l) ≡ nothing
@@ -110,7 +109,7 @@ module _ (m : Message) (l : List ℕ) (at : ℕ) (s : Seen) (lies : Lies m l s) 
 
     -- a known element: its account is that of the tree
     kept-known : (x : Contents) (t : Seen) → (contents m id).parse held ≡ found x [] → known m id ≡ true → account_by m l t ≡ accounted (account_by m l s) (this x) → Lies m l t
-        → TurnAt m l at s (Next t end)
+        → TurnAt m l at s end (Some t)
     kept-known x t e k a there = record { says = sym whole; lies = (read.lies.1, there) }
       where
         taken : (element m).parse (drop at l) ≡ found (this x) (drop end l)
@@ -128,7 +127,7 @@ module _ (m : Message) (l : List ℕ) (at : ℕ) (s : Seen) (lies : Lies m l s) 
     moved t a b k o = record { begins = rw (a, b) lies.begins; ends = rw b lies.ends; list = rw (a, b, k, o) lies.list }
 
     skip_kept : (x : List ℕ) → (element m).parse (drop at l) ≡ found (this (other x)) (drop end l)
-        → TurnAt m l at s (Next (record { rejects = s.rejects || eqb criticality 0; lacks = s.lacks; ascends = s.ascends; ordered = s.ordered; last = s.last; identified = s.identified; counted = s.counted; transaction = s.transaction; requested = s.requested; all = s.all; noted = s.noted; identifier = s.identifier; serial = s.serial; start = s.start; end = s.end }) end)
+        → TurnAt m l at s end (Some (record { rejects = s.rejects || eqb criticality 0; lacks = s.lacks; ascends = s.ascends; ordered = s.ordered; last = s.last; identified = s.identified; counted = s.counted; transaction = s.transaction; requested = s.requested; all = s.all; noted = s.noted; identifier = s.identifier; serial = s.serial; start = s.start; end = s.end }))
     unfolding accounted entered account_by said_by
     skip_kept x e =
         record {
@@ -137,7 +136,7 @@ module _ (m : Message) (l : List ℕ) (at : ℕ) (s : Seen) (lies : Lies m l s) 
         }
 
     -- an unknown one is skipped, or counts as marked reject, or has no criticality
-    other-kept : (x : List ℕ) → (contents m id).parse held ≡ found (other x) [] → TurnAt m l at s (turn_of s id criticality start end (kept (other x)))
+    other-kept : (x : List ℕ) → (contents m id).parse held ≡ found (other x) [] → TurnAt m l at s end (turn_of s id criticality start end (kept (other x)))
     other-kept x e = by_test (ltb criticality 3) proper-one improper
       where
         no_name : known m id ≡ false
@@ -146,13 +145,13 @@ module _ (m : Message) (l : List ℕ) (at : ℕ) (s : Seen) (lies : Lies m l s) 
         left : (t : Bool) → ltb criticality 3 ≡ t → (element m).parse (drop at l) ≡ cond t (found (this (other x)) (drop end l)) nothing
         left t f = step (other x) e ∙ ap (λ (b : Bool). cond (b || ltb criticality 3) (found (this (other x)) (drop end l)) nothing) no_name ∙ ap (λ (b : Bool). cond b (found (this (other x)) (drop end l)) nothing) f
 
-        improper : ltb criticality 3 ≡ false → TurnAt m l at s (turn_of s id criticality start end (kept (other x)))
+        improper : ltb criticality 3 ≡ false → TurnAt m l at s end (turn_of s id criticality start end (kept (other x)))
         improper t = unfold turn_of past_of in rw t (record { says = sym (ap (summed (accounted (account_by m l s))) (left false t)); lies = tt })
 
-        proper-one : ltb criticality 3 ≡ true → TurnAt m l at s (turn_of s id criticality start end (kept (other x)))
+        proper-one : ltb criticality 3 ≡ true → TurnAt m l at s end (turn_of s id criticality start end (kept (other x)))
         proper-one t = unfold turn_of past_of in rw t (skip_kept x (left true t))
 
-    by_element : (x : Contents) → (contents m id).parse held ≡ found x [] → TurnAt m l at s (turn_of s id criticality start end (kept x))
+    by_element : (x : Contents) → (contents m id).parse held ≡ found x [] → TurnAt m l at s end (turn_of s id criticality start end (kept x))
     unfolding turn_of accounted entered account_by said_by known
     by_element (transaction t) e =
         let i : id ≡ 78 = id_of m id held (transaction t) [] e in
@@ -173,10 +172,10 @@ module _ (m : Message) (l : List ℕ) (at : ℕ) (s : Seen) (lies : Lies m l s) 
         kept-known (notification n) _ e (is_known_lem m id held (notification n) [] e) (rw (i, or-false s.lacks, or-false s.identified, or-false s.counted)) (moved _ refl refl refl refl)
     by_element (other x) e = other-kept x e
 
-    by_contents : (x : Found Contents) → (contents m id).parse held ≡ x → (h : Heard) → heard_by h ≡ all_of (summed kept x) [] → TurnAt m l at s (turn_of s id criticality start end h)
-    by_contents nothing e h t = unfold turn_of in rw (heard-none h t) (broken nothing e refl)
+    by_contents : (x : Found Contents) → (contents m id).parse held ≡ x → (h : Option Heard) → heard_by h ≡ all_of (summed kept x) [] → TurnAt m l at s end (turn_with s id criticality start end h)
+    by_contents nothing e h t = rw (heard-none h t) (broken nothing e refl)
     by_contents (found x []) e h t = rw (heard-is h (kept x) t) (by_element x e)
-    by_contents (found x (b ∷ bs)) e h t = unfold turn_of in rw (heard-none h t) (broken (found x (b ∷ bs)) e refl)
+    by_contents (found x (b ∷ bs)) e h t = rw (heard-none h t) (broken (found x (b ∷ bs)) e refl)
 
-    pub turn-kept : (h : Heard) → Tells (contents m id) held h → TurnAt m l at s (turn_of s id criticality start end h)
+    pub turn-kept : (h : Option Heard) → Tells (contents m id) held h → TurnAt m l at s end (turn_with s id criticality start end h)
     turn-kept h t = by_contents ((contents m id).parse held) refl h t

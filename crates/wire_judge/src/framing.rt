@@ -1,88 +1,78 @@
 // The frame around a message.
-ghost use Rattle.std.specs.Prelude.{◌≡◌, ◌≤◌, length};
-ghost use Rattle.wire.specs.Messages.{frame_id};
+ghost use Rattle.std.specs.Prelude.{◌≡◌, Err, ◌≤◌, length};
 ghost use Rattle.wire_judge.specs.Readers.{Extended, NotOwn, FramedAs};
 
-use crate::Framed;
-use aper::{CRITICALITIES, Step, element_at};
-use octets::get8;
+use aper::{CRITICALITIES, element_at};
+use octets::get;
+use rules::Refusal;
 use wire::Message;
-use wire::form::{CANCEL_REQUEST, CANCEL_RESPONSE, WRITE_REPLACE_RESPONSE};
 
 // Choice-extension, whose id has two bytes; of the other choices the procedure code has one, so that choice and code stand where an element has its id.
 const CHOICE_EXTENSION: u8 = 192;
 
-// Choice and procedure code of a message.
-fn frame_id(m: Message) -> u16
-    ensures { result ≡ frame_id m }
-{
-    match m {
-        Message::CancelRequest => CANCEL_REQUEST,
-        Message::CancelResponse => CANCEL_RESPONSE,
-        Message::WriteReplaceResponse => WRITE_REPLACE_RESPONSE,
-    }
-}
-
 // What follows the choice is an element; none of our messages is framed so.
-fn extension_frame(m: Message, s: &[u8]) -> Framed
+fn extension_frame(m: Message, s: &[u8]) -> Refusal
     requires in_bounds { 1 ≤ length s.now }
     requires extended { Extended s.now }
-    ensures { FramedAs m s.now result }
+    ensures { FramedAs m s.now (Err result) }
 {
     match element_at(s, 1) {
-        Step::NoElement => Framed::NoFrame,
-        Step::One(_, criticality, _, end) => {
-            if CRITICALITIES <= criticality {
-                return Framed::NoFrame;
+        None => Refusal::BadEncoding,
+        Some(element) => {
+            if CRITICALITIES <= element.criticality {
+                return Refusal::BadEncoding;
             }
-            if end != s.len() {
-                return Framed::NoFrame;
+            if element.end != s.len() {
+                return Refusal::BadEncoding;
             }
-            Framed::Another
+            Refusal::OtherMessage
         }
     }
 }
 
-// Another message's frame, or none.
-fn other_frame(m: Message, s: &[u8]) -> Framed
+// Why a frame is not the message's own: it is another message's, or none.
+fn other_frame(m: Message, s: &[u8]) -> Refusal
     requires { NotOwn m s.now }
-    ensures { FramedAs m s.now result }
+    ensures { FramedAs m s.now (Err result) }
 {
     if s.len() == 0 {
-        return Framed::NoFrame;
+        return Refusal::BadEncoding;
     }
-    let choice = get8(s, 0);
+    let choice = get::<u8>(s, 0);
     if choice % 64 != 0 {
-        return Framed::NoFrame;
+        return Refusal::BadEncoding;
     }
     if choice == CHOICE_EXTENSION {
         return extension_frame(m, s);
     }
     match element_at(s, 0) {
-        Step::NoElement => Framed::NoFrame,
-        Step::One(_, criticality, _, end) => {
-            if CRITICALITIES <= criticality {
-                return Framed::NoFrame;
+        None => Refusal::BadEncoding,
+        Some(element) => {
+            if CRITICALITIES <= element.criticality {
+                return Refusal::BadEncoding;
             }
-            if end != s.len() {
-                return Framed::NoFrame;
+            if element.end != s.len() {
+                return Refusal::BadEncoding;
             }
-            Framed::Another
+            Refusal::OtherMessage
         }
     }
 }
 
-// The message's own frame is seen at once, and this much is compiled into each caller; anything else takes the closer look.
-pub fn frame(m: Message, s: &[u8]) -> Framed
+// Where the message begins behind its frame. Its own frame is seen at once, and this much is compiled into each caller; anything else takes the closer look.
+pub fn frame(m: Message, s: &[u8]) -> Result<usize, Refusal>
     ensures { FramedAs m s.now result }
 {
     match element_at(s, 0) {
-        Step::NoElement => other_frame(m, s),
-        Step::One(id, criticality, start, end) => {
-            if (id == frame_id(m)) & (criticality < CRITICALITIES) & (end == s.len()) {
-                return Framed::This(start);
+        None => Err(other_frame(m, s)),
+        Some(element) => {
+            if (element.id == m.frame_id())
+                & (element.criticality < CRITICALITIES)
+                & (element.end == s.len())
+            {
+                return Ok(element.start);
             }
-            other_frame(m, s)
+            Err(other_frame(m, s))
         }
     }
 }

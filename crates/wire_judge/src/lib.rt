@@ -1,29 +1,24 @@
-// Whether bytes are a PWS CANCEL REQUEST that can be taken (13 to 16): one pass over it judges it and remembers what it says and where its list of cells
-// lies, which may be anywhere among its elements. Responses have a judge of their own, since one with two callers is made a call and cancels read slowly:
-// the frame, what was seen and all laws here are of any message, and serve both.
+// Whether bytes are a message that can be taken (13 to 16): one pass over its elements judges it and remembers what it says and where its list of cells
+// lies, which may be anywhere among them. What is remembered is a type parameter, so that the pass is compiled into each reader for itself: one for both is a
+// call, and hands what was seen through memory. A response says less than a request, and then less is moved along.
 #![tactic(auto)]
 
 pub mod framing;
 
-ghost use Rattle.std.specs.Prelude.{◌≡◌, ◌≤◌, length};
+ghost use Rattle.std.specs.Prelude.{◌≡◌, IfSome, Some, ◌≤◌, length};
+ghost use Rattle.std.specs.Option.{option_map};
+ghost use Rattle.wire.specs.declared.Message.{Message};
 ghost use Rattle.wire.specs.declared.Message.TheVariants.{CancelRequest};
+ghost use Rattle.wire_judge.specs.declared.Seen.{Seen};
 ghost use Rattle.wire_judge.specs.Account.{Lies};
-ghost use Rattle.wire_judge.specs.Readers.{nothing_seen, in_turn, past_of, turn_of, TurnAt, WalkedOver, JudgedAs};
+ghost use Rattle.wire_judge.specs.Readers.{nothing_seen, in_turn, past_of, turn_of, Turned, WalkedOver, is_complete, JudgedAs};
 
 use crate::framing::frame;
-use aper::{CRITICALITIES, REJECT, Step, element_at};
-use octets::{get8, get16};
+use aper::{CRITICALITIES, Element, REJECT, element_at};
+use octets::get;
 use rules::Refusal;
 use wire::form::{ELEMENTS_AT, FIRST_AT};
 use wire::{Heard, Message, hear};
-
-// The frame around a message: where the one that is looked for begins, or that it is another message's.
-#[derive(Drop)]
-pub enum Framed {
-    This(usize),
-    Another,
-    NoFrame,
-}
 
 // What was seen in the elements so far: whether something is marked reject, whether an item of the list is missing, whether its cells ascend, whether the
 // known elements are in order, the last of them, whether the two mandatory ones are there; what they said; where the list of cells begins and ends, both 0
@@ -47,178 +42,223 @@ pub struct Seen {
     pub noted: bool,
 }
 
-// One element more: what was seen with it, and where it ends.
-#[derive(Drop)]
-pub enum Turn {
-    Next(Seen, usize),
-    NoTurn,
+// Where a message's elements are, and what was seen in them.
+#[derive(Clone, Copy)]
+pub struct Judged<K> {
+    pub start: usize,
+    pub kept: K,
 }
 
-// All elements.
-#[derive(Drop)]
-pub enum Walk {
-    Whole(Seen),
-    Broken,
+// What is kept of the elements so far: what was seen, or what can be seen in some messages alone.
+pub trait Kept: Copy {
+    // all that it says
+    ghost seen: { Self → Seen };
+
+    // the messages that say no more
+    ghost Judges: { Message → Type 0 };
+
+    fn nothing() -> Self
+        ensures { seen result ≡ nothing_seen };
+
+    // One element more; its contents are lent.
+    fn with(self, m: Message, s: &[u8], element: Element) -> Option<Self>
+        requires judges { Judges m }
+        requires begins { element.start ≤ element.end }
+        requires ends { element.end ≤ length s.now }
+        requires lies { Lies m s.now (seen self) }
+        ensures { Turned m s.now (seen self) element (option_map seen result) };
+
+    // All elements, where they are seen without a walk from one to the next; of any others nothing is said.
+    fn at_once(m: Message, s: &[u8]) -> Option<Self>
+        requires { Judges m }
+        ensures { IfSome result (λ kept. WalkedOver m s.now (Some (seen kept))) };
+
+    fn rejects(self) -> bool
+        ensures { result ≡ (seen self).rejects };
+
+    fn is_complete(self, m: Message) -> bool
+        requires { Judges m }
+        ensures { result ≡ is_complete m (seen self) };
 }
 
-// Where a message's elements are and what was seen in them, or why it is refused.
-#[derive(Drop)]
-pub enum Judged {
-    Fine(usize, Seen),
-    Unfit(Refusal),
+// ---- what a request says
+
+impl Seen {
+    // A known element, in the order of their ids.
+    #[tactic(auto, unfolding(crate::specs::Readers::in_turn))]
+    fn in_turn(self, id: u16) -> Seen
+        ensures { result ≡ in_turn self id }
+    {
+        let mut now = self;
+        let place = id as usize;
+        now.ordered = self.ordered & (self.last < place);
+        now.last = place;
+        now
+    }
+
+    // An unknown one: skipped, or marked reject, or with no criticality.
+    #[tactic(auto, unfolding(crate::specs::Readers::past_of))]
+    fn past(self, criticality: u8) -> Option<Seen>
+        ensures { result ≡ past_of self criticality }
+    {
+        if CRITICALITIES <= criticality {
+            return None;
+        }
+        let mut now = self;
+        now.rejects = self.rejects | (criticality == REJECT);
+        Some(now)
+    }
+
+    // What an element tells, and where it lies. Each arm begins with what was seen: with one beginning for all of them the whole of it is moved once more.
+    #[tactic(auto, unfolding(crate::specs::Readers::turn_of, crate::specs::Readers::in_turn))]
+    fn told(self, element: Element, heard: Heard) -> Option<Seen>
+        ensures { result ≡ turn_of self element.id element.criticality element.start element.end heard }
+    {
+        match heard {
+            Heard::Transaction(transaction) => {
+                let mut now = self.in_turn(element.id);
+                now.identified = true;
+                now.transaction = transaction as u16;
+                Some(now)
+            }
+            Heard::Requested(requested) => {
+                let mut now = self.in_turn(element.id);
+                now.counted = true;
+                now.requested = requested;
+                Some(now)
+            }
+            Heard::Cells(marks) => {
+                let mut now = self.in_turn(element.id);
+                now.rejects = self.rejects | marks.rejected;
+                now.lacks = self.lacks | marks.foreign;
+                now.ascends = marks.ascends;
+                now.start = element.start;
+                now.end = element.end;
+                Some(now)
+            }
+            Heard::CancelAll => {
+                let mut now = self.in_turn(element.id);
+                now.all = true;
+                Some(now)
+            }
+            Heard::Notification(notice) => {
+                let mut now = self.in_turn(element.id);
+                now.rejects = self.rejects | notice.rejected;
+                now.noted = true;
+                now.identifier = notice.identifier;
+                now.serial = notice.serial;
+                Some(now)
+            }
+            Heard::Unknown => self.past(element.criticality),
+        }
+    }
+}
+
+impl Kept for Seen {
+    ghost use Rattle.std.specs.Prelude.{◌≡◌};
+    ghost use Rattle.wire.specs.declared.Message.TheVariants.{CancelRequest};
+
+    ghost seen = { λ s. s };
+
+    ghost Judges = { λ m. m ≡ CancelRequest };
+
+    #[tactic(auto, unfolding(crate::specs::Readers::nothing_seen))]
+    fn nothing() -> Seen {
+        Seen {
+            rejects: false,
+            lacks: false,
+            ascends: true,
+            ordered: true,
+            last: 0,
+            identified: false,
+            counted: false,
+            transaction: 0,
+            requested: 0,
+            all: false,
+            noted: false,
+            identifier: 0,
+            serial: 0,
+            start: 0,
+            end: 0,
+        }
+    }
+
+    fn with(self, m: Message, s: &[u8], element: Element) -> Option<Seen> {
+        let start = element.start;
+        let end = element.end;
+        let heard = hear(element.id, &s[start..end])?;
+        self.told(element, heard)
+    }
+
+    fn at_once(m: Message, s: &[u8]) -> Option<Seen> {
+        None
+    }
+
+    fn rejects(self) -> bool {
+        self.rejects
+    }
+
+    fn is_complete(self, m: Message) -> bool {
+        self.ordered & self.identified & self.counted & !self.lacks
+    }
 }
 
 // ---- the elements
 
-fn in_turn(seen: Seen, id: u16) -> Seen
-    ensures { result ≡ in_turn seen id }
-{
-    let mut now = seen;
-    let place = id as usize;
-    now.ordered = seen.ordered & (seen.last < place);
-    now.last = place;
-    now
-}
-
-// An unknown element: skipped, or marked reject, or with no criticality.
-fn past(seen: Seen, criticality: u8, end: usize) -> Turn
-    ensures { result ≡ past_of seen criticality end }
-{
-    if CRITICALITIES <= criticality {
-        return Turn::NoTurn;
-    }
-    let mut now = seen;
-    now.rejects = seen.rejects | (criticality == REJECT);
-    Turn::Next(now, end)
-}
-
-fn turn_of(seen: Seen, id: u16, criticality: u8, start: usize, end: usize, heard: Heard) -> Turn
-    ensures { result ≡ turn_of seen id criticality start end heard }
-{
-    match heard {
-        Heard::Transaction(transaction) => {
-            let mut now = in_turn(seen, id);
-            now.identified = true;
-            now.transaction = transaction as u16;
-            Turn::Next(now, end)
-        }
-        Heard::Requested(requested) => {
-            let mut now = in_turn(seen, id);
-            now.counted = true;
-            now.requested = requested;
-            Turn::Next(now, end)
-        }
-        Heard::Cells(rejects, lacks, ascends) => {
-            let mut now = in_turn(seen, id);
-            now.rejects = seen.rejects | rejects;
-            now.lacks = seen.lacks | lacks;
-            now.ascends = ascends;
-            now.start = start;
-            now.end = end;
-            Turn::Next(now, end)
-        }
-        Heard::CancelAll => {
-            let mut now = in_turn(seen, id);
-            now.all = true;
-            Turn::Next(now, end)
-        }
-        Heard::Notification(rejects, identifier, serial) => {
-            let mut now = in_turn(seen, id);
-            now.rejects = seen.rejects | rejects;
-            now.noted = true;
-            now.identifier = identifier;
-            now.serial = serial;
-            Turn::Next(now, end)
-        }
-        Heard::Unknown => past(seen, criticality, end),
-        Heard::Bad => Turn::NoTurn,
-    }
-}
-
-fn nothing_seen() -> Seen
-    ensures { result ≡ nothing_seen }
-{
-    Seen {
-        rejects: false,
-        lacks: false,
-        ascends: true,
-        ordered: true,
-        last: 0,
-        identified: false,
-        counted: false,
-        transaction: 0,
-        requested: 0,
-        all: false,
-        noted: false,
-        identifier: 0,
-        serial: 0,
-        start: 0,
-        end: 0,
-    }
-}
-
-// The element at an index, and what was seen with it.
-fn turn_at(s: &[u8], at: usize, seen: Seen) -> Turn
-    requires at_in_bounds { at ≤ length s.now }
-    requires lies { Lies CancelRequest s.now seen }
-    ensures { TurnAt CancelRequest s.now at seen result }
-{
-    match element_at(s, at) {
-        Step::NoElement => Turn::NoTurn,
-        Step::One(id, criticality, start, end) => {
-            turn_of(seen, id, criticality, start, end, hear(id, &s[start..end]))
-        }
-    }
-}
-
-// The elements of a message behind its extension bit and their number, all of them and nothing else.
-fn elements(s: &[u8]) -> Walk
-    ensures { WalkedOver CancelRequest s.now result }
+// One after the other, behind the extension bit and their number: all of them and nothing else.
+fn each_element<K: Kept>(m: Message, s: &[u8]) -> Option<K>
+    requires { K.Judges m }
+    ensures { WalkedOver m s.now (option_map K.seen result) }
 {
     if s.len() < FIRST_AT {
-        return Walk::Broken;
+        return None;
     }
-    if get8(s, 0) != 0 {
-        return Walk::Broken;
+    if get::<u8>(s, 0) != 0 {
+        return None;
     }
-    let mut left = get16(s, ELEMENTS_AT) as usize;
     let mut at = FIRST_AT;
-    let mut seen = nothing_seen();
-    while 0 < left {
-        match turn_at(s, at, seen) {
-            Turn::NoTurn => return Walk::Broken,
-            Turn::Next(now, end) => {
-                seen = now;
-                at = end;
-                left -= 1;
-            }
-        }
+    let mut kept = K::nothing();
+    for _ in 0..get::<u16>(s, ELEMENTS_AT) {
+        let element = element_at(s, at)?;
+        kept = kept.with(m, s, element)?;
+        at = element.end;
     }
     if at != s.len() {
-        return Walk::Broken;
+        return None;
     }
-    Walk::Whole(seen)
+    Some(kept)
+}
+
+fn elements<K: Kept>(m: Message, s: &[u8]) -> Option<K>
+    requires { K.Judges m }
+    ensures { WalkedOver m s.now (option_map K.seen result) }
+{
+    match K::at_once(m, s) {
+        Some(kept) => Some(kept),
+        None => each_element(m, s),
+    }
 }
 
 // ---- 13 to 16
 
-pub fn judge(message: &[u8]) -> Judged
-    ensures { JudgedAs CancelRequest message.now result }
+// Of any message, by what is kept of it.
+pub fn judge_by<K: Kept>(m: Message, message: &[u8]) -> Result<Judged<K>, Refusal>
+    requires { K.Judges m }
+    ensures { JudgedAs K.seen m message.now result }
 {
-    match frame(Message::CancelRequest, message) {
-        Framed::NoFrame => Judged::Unfit(Refusal::BadEncoding),
-        Framed::Another => Judged::Unfit(Refusal::OtherMessage),
-        Framed::This(start) => match elements(&message[start..]) {
-            Walk::Broken => Judged::Unfit(Refusal::BadEncoding),
-            Walk::Whole(seen) => {
-                if seen.rejects {
-                    return Judged::Unfit(Refusal::UnknownElement);
-                }
-                if seen.ordered & seen.identified & seen.counted & !seen.lacks {
-                    return Judged::Fine(start, seen);
-                }
-                Judged::Unfit(Refusal::ElementsWrong)
-            }
-        },
+    let start = frame(m, message)?;
+    let kept: K = elements(m, &message[start..]).ok_or(Refusal::BadEncoding)?;
+    if kept.rejects() {
+        return Err(Refusal::UnknownElement);
     }
+    if !kept.is_complete(m) {
+        return Err(Refusal::ElementsWrong);
+    }
+    Ok(Judged { start, kept })
+}
+
+pub fn judge(message: &[u8]) -> Result<Judged<Seen>, Refusal>
+    ensures { JudgedAs (λ s. s) CancelRequest message.now result }
+{
+    judge_by(Message::CancelRequest, message)
 }

@@ -4,4 +4,4 @@ use Rattle.answer.proofs.HeadLaws.{kind-read}
 use Rattle.answer.proofs.kind.Goals as goal
 
 pub returns : goal.returns
-returns c = c.get8.ensures ∙ kind-read _ c.requires
+returns c = c.get.ensures ∙ kind-read _ c.requires

@@ -11,6 +11,6 @@ use Rattle.answer.proofs.put_head.Goals as goal
 pub returns : goal.returns
 returns c =
     let s = c.args in
-    c.put32.ensures
-    ∙ ap (λ l. sets l 8 (to_be 4 (s.serial * 65536 + s.rows))) c.put64.ensures
+    c.put-2.ensures
+    ∙ ap (λ l. sets l 8 (to_be 4 (s.serial * 65536 + s.rows))) c.put.ensures
     ∙ head-stored s.kind s.identifier s.serial s.rows (search rules) (search rules) (search rules) (search rules) s.answer.now

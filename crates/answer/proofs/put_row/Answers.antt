@@ -7,4 +7,4 @@ use Rattle.answer.proofs.put_row.Goals as goal
 pub returns : goal.returns
 returns c =
     let s = c.args in
-    row-stored s.out.now s.at (row_said s.row) _ _ _ c.put64.ensures c.put16.ensures c.put32.ensures
+    row-stored s.out.now s.at (row_said s.row) _ _ _ c.put.ensures c.put-2.ensures c.put-3.ensures

@@ -9,4 +9,4 @@ pub returns : goal.returns
 unfolding row_at
 returns c =
     let s = c.args in
-    row_read s.answer.now (answer_size current + row_size current * s.k) _ _ _ c.get64.ensures c.get16.ensures c.get32.ensures
+    row_read s.answer.now (answer_size current + row_size current * s.k) _ _ _ c.get.ensures c.get-2.ensures c.get-3.ensures

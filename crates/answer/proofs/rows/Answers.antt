@@ -4,4 +4,4 @@ use Rattle.answer.proofs.HeadLaws.{rows-read}
 use Rattle.answer.proofs.rows.Goals as goal
 
 pub returns : goal.returns
-returns c = c.get16.ensures ∙ rows-read _ c.requires
+returns c = c.get.ensures ∙ rows-read _ c.requires

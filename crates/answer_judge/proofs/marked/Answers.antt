@@ -14,6 +14,6 @@ unfolding answer_marked offset
 returns c =
     let b = c.args.answer.now in
     let long = c.requires in
-    rw (c.get32.ensures, c.get8.ensures)
+    rw (c.get.ensures, c.get-2.ensures)
     (mark_and_version b (λ i. (c.shared_slice_known-1.given i).fits) answer_mark _ (omega arith)
     ∙ rw (← field_at (answer_fields current) mark_field b (omega (arith, long)), ← field_at (answer_fields current) version_field b (omega (arith, long))))

@@ -15,23 +15,23 @@ overflow_mul-at c = omega arith
 pub overflow_add-at : goal.overflow_add-at
 overflow_add-at c = omega arith
 
-pub get64-identity-requires : goal.get64-identity-requires
-get64-identity-requires c = omega arith
+pub get-identity-requires : goal.get-identity-requires
+get-identity-requires c = omega arith
 
 pub returns-then-identity-least : goal.returns-then-identity-least
 returns-then-identity-least c =
-    row_below _ _ _ c.requires c.loop-k.invariant c.loop-k-test.true _ c.get64-identity.ensures c.if-identity-least.true
+    row_below _ _ _ c.requires c.loop-k.invariant c.loop-k-test.true _ c.get-identity.ensures c.if-identity-least.true
 
 pub returns-then-identity-ge-CELL_END : goal.returns-then-identity-ge-CELL_END
 returns-then-identity-ge-CELL_END c =
-    row_large _ _ _ c.requires c.loop-k.invariant c.loop-k-test.true _ c.get64-identity.ensures c.if-identity-least.false c.if-identity-ge-CELL_END.true
+    row_large _ _ _ c.requires c.loop-k.invariant c.loop-k-test.true _ c.get-identity.ensures c.if-identity-least.false c.if-identity-ge-CELL_END.true
 
 pub told_right-requires : goal.told_right-requires
 told_right-requires c = omega arith
 
 pub returns-then-not-told_right : goal.returns-then-not-told_right
 returns-then-not-told_right c =
-    row-wrong _ _ _ c.requires c.loop-k.invariant c.loop-k-test.true _ c.get64-identity.ensures c.if-identity-least.false c.if-identity-ge-CELL_END.false
+    row-wrong _ _ _ c.requires c.loop-k.invariant c.loop-k-test.true _ c.get-identity.ensures c.if-identity-least.false c.if-identity-ge-CELL_END.false
     _ c.told_right.ensures (ap not c.if-not-told_right.true)
 
 pub overflow_add-least : goal.overflow_add-least
@@ -45,7 +45,7 @@ loop-k-smaller c = omega arith
 
 pub loop-k-preserved : goal.loop-k-preserved
 loop-k-preserved c =
-    row_on _ _ _ c.requires c.loop-k.invariant c.loop-k-test.true _ c.get64-identity.ensures c.if-identity-least.false c.if-identity-ge-CELL_END.false
+    row_on _ _ _ c.requires c.loop-k.invariant c.loop-k-test.true _ c.get-identity.ensures c.if-identity-least.false c.if-identity-ge-CELL_END.false
     _ c.told_right.ensures (ap not c.if-not-told_right.false)
 
 pub returns : goal.returns

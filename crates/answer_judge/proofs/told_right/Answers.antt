@@ -4,23 +4,23 @@ use borrow.Author.Tests.{eq-eqb, ne_eqb}
 use Rattle.answer_judge.proofs.RowsLeftLaws.{told-read}
 use Rattle.answer_judge.proofs.told_right.Goals as goal
 
-pub returns-then-get32-ne0 : goal.returns-then-get32-ne0
-returns-then-get32-ne0 c =
+pub returns-then-get-ne0 : goal.returns-then-get-ne0
+returns-then-get-ne0 c =
     let s = c.args in
-    rw (told-read s.answer.now s.at s.counted, ← c.get32.ensures, ne_eqb c.get32.result 0 c.if-get32-ne0.true)
+    rw (told-read s.answer.now s.at s.counted, ← c.get.ensures, ne_eqb c.get.result 0 c.if-get-ne0.true)
 
 pub returns-then-counted : goal.returns-then-counted
 returns-then-counted c =
     let s = c.args in
-    rw (told-read s.answer.now s.at s.counted, ← c.get32.ensures, eq-eqb c.get32.result 0 c.if-get32-ne0.false, c.if-counted.true)
+    rw (told-read s.answer.now s.at s.counted, ← c.get.ensures, eq-eqb c.get.result 0 c.if-get-ne0.false, c.if-counted.true)
 
 pub returns : goal.returns
 returns c =
     let s = c.args in
     rw (
       told-read s.answer.now s.at s.counted,
-      ← c.get32.ensures,
-      eq-eqb c.get32.result 0 c.if-get32-ne0.false,
+      ← c.get.ensures,
+      eq-eqb c.get.result 0 c.if-get-ne0.false,
       c.if-counted.false,
-      c.get16.ensures,
+      c.get-2.ensures,
     )

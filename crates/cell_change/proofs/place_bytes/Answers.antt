@@ -9,13 +9,13 @@ pub returns : goal.returns
 unfolding to_be bytes_of place_numbers place_bytes
 returns c =
     rw (
-      c.put8-2.ensures,
-      c.put8.ensures,
-      c.put32-3.ensures,
-      c.put16-4.ensures,
-      c.put16-3.ensures,
-      c.put32-2.ensures,
-      c.put32.ensures,
-      c.put16-2.ensures,
-      c.put16.ensures,
+      c.put-9.ensures,
+      c.put-8.ensures,
+      c.put-7.ensures,
+      c.put-6.ensures,
+      c.put-5.ensures,
+      c.put-4.ensures,
+      c.put-3.ensures,
+      c.put-2.ensures,
+      c.put.ensures,
     )

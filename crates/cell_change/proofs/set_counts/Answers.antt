@@ -5,4 +5,4 @@ use borrow.Author.Rules.{rules}
 use Rattle.cell_change.proofs.set_counts.Goals as goal
 
 pub returns : goal.returns
-returns c = rw (c.put32.ensures, c.put16.ensures) (counts-stored _ _ (search rules) _ _)
+returns c = rw (c.put-2.ensures, c.put.ensures) (counts-stored _ _ (search rules) _ _)

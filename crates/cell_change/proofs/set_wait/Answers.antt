@@ -6,4 +6,4 @@ use borrow.Author.Rules.{rules}
 use Rattle.cell_change.proofs.set_wait.Goals as goal
 
 pub returns : goal.returns
-returns c = c.put32.ensures ∙ wait-stored _ _ (search rules) _
+returns c = c.put.ensures ∙ wait-stored _ _ (search rules) _

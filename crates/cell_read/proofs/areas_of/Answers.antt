@@ -5,4 +5,4 @@ use Rattle.cell_read.proofs.areas_of.Goals as goal
 
 pub returns : goal.returns
 returns c =
-    areas-read c.args.cell.now c.requires _ c.get8.ensures (rw (c.get24.ensures, c.get24-2.ensures, c.get24-3.ensures, c.get24-4.ensures))
+    areas-read c.args.cell.now c.requires _ c.get.ensures (rw (c.get24.ensures, c.get24-2.ensures, c.get24-3.ensures, c.get24-4.ensures))

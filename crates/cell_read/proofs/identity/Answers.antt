@@ -5,4 +5,4 @@ use Rattle.cell_read.proofs.ReadsLaws.{identity-read}
 use Rattle.cell_read.proofs.identity.Goals as goal
 
 pub returns : goal.returns
-returns c = c.get64.ensures ∙ sym (identity-read c.args.cell.now c.requires)
+returns c = c.get.ensures ∙ sym (identity-read c.args.cell.now c.requires)

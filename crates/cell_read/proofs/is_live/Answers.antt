@@ -4,4 +4,4 @@ use Rattle.cell_read.proofs.ReadsLaws.{live-mark}
 use Rattle.cell_read.proofs.is_live.Goals as goal
 
 pub returns : goal.returns
-returns c = rw c.get8.ensures (live-mark c.args.cell.now (λ i. (c.shared_slice_known-1.given i).fits) c.requires.formed c.args.k c.requires.k_lt_places_per_cell)
+returns c = rw c.get.ensures (live-mark c.args.cell.now (λ i. (c.shared_slice_known-1.given i).fits) c.requires.formed c.args.k c.requires.k_lt_places_per_cell)

@@ -7,6 +7,6 @@ use Rattle.cell_read.proofs.terms_of.Goals as goal
 pub returns : goal.returns
 returns c =
     let bytes : Bytes c.args.cell.now = λ i. (c.shared_slice_known-1.given i).fits in (
-      rw (c.get32.ensures, period-read c.args.cell.now bytes c.args.k c.requires),
-      rw (c.get16.ensures, requested-read c.args.cell.now bytes c.args.k c.requires),
+      rw (c.get.ensures, period-read c.args.cell.now bytes c.args.k c.requires),
+      rw (c.get-2.ensures, requested-read c.args.cell.now bytes c.args.k c.requires),
     )

@@ -5,4 +5,4 @@ use Rattle.cell_read.proofs.ReadsLaws.{text-read}
 use Rattle.cell_read.proofs.text.Goals as goal
 
 pub returns : goal.returns
-returns c = c.get32.ensures ∙ text-read c.args.cell.now (λ i. (c.shared_slice_known-1.given i).fits) c.args.k c.requires
+returns c = c.get.ensures ∙ text-read c.args.cell.now (λ i. (c.shared_slice_known-1.given i).fits) c.args.k c.requires

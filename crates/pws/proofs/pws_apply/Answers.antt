@@ -7,4 +7,4 @@ use Rattle.pws.proofs.pws_apply.Goals as goal
 pub returns : goal.returns
 returns c =
     let call = c.apply in
-    ap (λ d. left d call.new.table call.new.answer) c.done.ensures ∙ call.ensures
+    ap (λ d. left d call.new.table call.new.answer) c.into.ensures ∙ call.ensures

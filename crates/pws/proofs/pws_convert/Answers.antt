@@ -7,4 +7,4 @@ use Rattle.pws.proofs.pws_convert.Goals as goal
 pub returns : goal.returns
 returns c =
     let call = c.convert in
-    ap (λ d. filled d call.new.table) c.done.ensures ∙ call.ensures
+    ap (λ d. filled d call.new.table) c.into.ensures ∙ call.ensures

@@ -7,4 +7,4 @@ use Rattle.pws.proofs.pws_pack.Goals as goal
 pub returns : goal.returns
 returns c =
     let call = c.pack in
-    ap (λ d. filled d call.new.list) c.done.ensures ∙ call.ensures
+    ap (λ d. filled d call.new.list) c.into.ensures ∙ call.ensures

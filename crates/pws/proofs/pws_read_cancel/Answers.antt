@@ -8,4 +8,4 @@ use Rattle.pws.proofs.pws_read_cancel.Goals as goal
 pub returns : goal.returns
 returns c =
     let call = c.read_cancel in
-    ap (λ m. taken m call.new.buffer) c.message.ensures ∙ same_taken call.result call.new.buffer ∙ call.ensures
+    ap (λ m. taken m call.new.buffer) c.into.ensures ∙ same_taken call.result call.new.buffer ∙ call.ensures

@@ -8,4 +8,4 @@ use Rattle.pws.proofs.pws_read_response.Goals as goal
 pub returns : goal.returns
 returns c =
     let call = c.read_response in
-    ap (λ m. taken m call.new.answer) c.message.ensures ∙ same_taken call.result call.new.answer ∙ call.ensures
+    ap (λ m. taken m call.new.answer) c.into.ensures ∙ same_taken call.result call.new.answer ∙ call.ensures

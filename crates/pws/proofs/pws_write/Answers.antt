@@ -7,4 +7,4 @@ use Rattle.pws.proofs.pws_write.Goals as goal
 pub returns : goal.returns
 returns c =
     let call = c.write in
-    ap (λ d. filled d call.new.buffer) c.done.ensures ∙ call.ensures
+    ap (λ d. filled d call.new.buffer) c.into.ensures ∙ call.ensures

@@ -7,4 +7,4 @@ use Rattle.pws.proofs.pws_write_response.Goals as goal
 pub returns : goal.returns
 returns c =
     let call = c.write_response in
-    ap (λ d. filled d call.new.message) c.done.ensures ∙ call.ensures
+    ap (λ d. filled d call.new.message) c.into.ensures ∙ call.ensures

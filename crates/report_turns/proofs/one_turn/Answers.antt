@@ -2,16 +2,14 @@
 use Rattle.report_turns.proofs.TurnedLaws.{without-table, with-table}
 use Rattle.report_turns.proofs.one_turn.Goals as goal
 
-pub returns-then-cells-eq0 : goal.returns-then-cells-eq0
-returns-then-cells-eq0 c =
+pub returns-in-None : goal.returns-in-None
+returns-in-None c =
     let x = c.open_table in
     let a = c.args in
-    without-table a.cells a.table.now a.answer.now a.held.now a.ended a.out.now a.at x.result x.new.table
-    a.answer.now x.new.out c.if-cells-eq0.true (x.ensures a.answer.now c.requires.answer-room)
+    without-table a.table.now a.answer.now a.held.bytes.now a.held.ended a.cells a.text.now x.result x.new.table a.answer.now x.new.text c.in-None.is (x.ensures a.answer.now c.requires.answer-room)
 
-pub returns : goal.returns
-returns c =
+pub returns-in-Some : goal.returns-in-Some
+returns-in-Some c =
     let x = c.serve_next in
     let a = c.args in
-    with-table a.cells a.table.now a.answer.now a.held.now a.ended a.out.now a.at x.result
-    x.new.table x.new.answer x.new.out c.if-cells-eq0.false x.ensures
+    with-table a.table.now a.answer.now a.held.bytes.now a.held.ended a.cells a.text.now x.result x.new.table x.new.answer x.new.text c.in-Some.cells c.in-Some.is x.ensures

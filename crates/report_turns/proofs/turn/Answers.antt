@@ -1,10 +1,7 @@
 -- `turn` does one turn over the bytes at hand and says where it stands then.
-use mathlib.Core.Path.{ap}
-use mathlib.Core.Bool.{◌||◌}
-use Prim.Native.Nat.{ℕ, ◌-◌}
+use Rattle.std.proofs.Common.{rules}
+use mathlib.Core.Path.{refl}
 use native.Mathlib.Omega.{arith}
-use lib.Dec.{ltb}
-use Rattle.report_turns.specs.Serve.{most_text}
 use Rattle.report_turns.proofs.TurnedLaws.{taken-within, turned}
 use Rattle.report_turns.proofs.turn.Goals as goal
 
@@ -13,19 +10,13 @@ overflow_add-result c =
     let a = c.args in
     let p = c.requires in
     let x = c.one_turn-took in
-    omega (
-      arith,
-      p.within,
-      c.well_formed,
-      taken-within a.s a.input.now a.table.now a.answer.now p.order p.within p.to_take.few
-          x.result a.out.now x.new.table x.new.answer x.new.out x.ensures,
-    )
+    let within = taken-within a.s a.input.now a.table.now a.answer.now p.order p.within p.to_take.few x.result _ x.new.text x.new.table x.new.answer refl x.ensures in
+    record { fits = omega (arith, p.within, c.well_formed, within) }
 
 pub returns : goal.returns
 returns c =
     let a = c.args in
     let p = c.requires in
     let x = c.one_turn-took in
-    turned a.s a.input.now a.table.now a.answer.now p.order p.within p.to_take.few x.result a.out.now
-    x.new.table x.new.answer x.new.out _ x.ensures
-    (ap (λ (n : ℕ). (x.result.waits || x.result.stops) || ltb (n - x.result.end) most_text) x.auto.out)
+    turned a.s a.input.now a.table.now a.answer.now p.order p.within p.to_take.few x.result _ x.new.text x.new.table x.new.answer refl x.ensures _
+    (rw (c.pauses.ensures, x.ensures.text.same_length)) _ (search rules)

@@ -16,21 +16,21 @@ short c = omega (arith, c.if-n-lt-SHORT.true)
 long : (c : Else-n-lt-SHORT) → short_length ≤ c.args.n
 long c = omega (arith, c.if-n-lt-SHORT.false)
 
-pub put32-requires : goal.put32-requires
-put32-requires c = omega (arith, short-size _ (short (goal.at.put32-requires c).Then-n-lt-SHORT))
+pub put-requires : goal.put-requires
+put-requires c = omega (arith, short-size _ (short (goal.at.put-requires c).Then-n-lt-SHORT))
 
 pub returns-then-n-lt-SHORT : goal.returns-then-n-lt-SHORT
 returns-then-n-lt-SHORT c =
     let a = c.args in
-    (rw (short-opening a.start (search rules) a.n (short (goal.at.returns-then-n-lt-SHORT c).Then-n-lt-SHORT)) c.put32.ensures, omega (arith, short-size _ (short (goal.at.returns-then-n-lt-SHORT c).Then-n-lt-SHORT)))
+    (rw (short-opening a.start (search rules) a.n (short (goal.at.returns-then-n-lt-SHORT c).Then-n-lt-SHORT)) c.put.ensures, omega (arith, short-size _ (short (goal.at.returns-then-n-lt-SHORT c).Then-n-lt-SHORT)))
 
-pub put32-requires-2 : goal.put32-requires-2
-put32-requires-2 c = omega (arith, long-size _ (long (goal.at.put32-requires-2 c).Else-n-lt-SHORT))
+pub put-requires-2 : goal.put-requires-2
+put-requires-2 c = omega (arith, long-size _ (long (goal.at.put-requires-2 c).Else-n-lt-SHORT))
 
-pub put8-requires : goal.put8-requires
-put8-requires c = let two = long-size _ (long (goal.at.put8-requires c).Else-n-lt-SHORT) in omega arith
+pub put-requires-3 : goal.put-requires-3
+put-requires-3 c = let two = long-size _ (long (goal.at.put-requires-3 c).Else-n-lt-SHORT) in omega arith
 
 pub returns : goal.returns
 returns c =
     let a = c.args in
-    (long-stored a.message.now a.at a.start a.n (search rules) (long (goal.at.returns c).Else-n-lt-SHORT) c.requires.n_lt_long_length c.put32-2.ensures c.put8.ensures, omega (arith, long-size _ (long (goal.at.returns c).Else-n-lt-SHORT)))
+    (long-stored a.message.now a.at a.start a.n (search rules) (long (goal.at.returns c).Else-n-lt-SHORT) c.requires.fits_length c.put-2.ensures c.put-3.ensures, omega (arith, long-size _ (long (goal.at.returns c).Else-n-lt-SHORT)))

@@ -9,6 +9,6 @@ pub returns-then-request-eq-PRIMARY_SIB : goal.returns-then-request-eq-PRIMARY_S
 unfolding new_place
 returns-then-request-eq-PRIMARY_SIB c = rw (eq-eqb _ primary_sib c.if-request-eq-PRIMARY_SIB.true)
 
-pub returns-else-request-eq-PRIMARY_SIB : goal.returns-else-request-eq-PRIMARY_SIB
+pub returns : goal.returns
 unfolding new_place
-returns-else-request-eq-PRIMARY_SIB c = rw (ne_eqb _ primary_sib c.if-request-eq-PRIMARY_SIB.false)
+returns c = rw (ne_eqb _ primary_sib c.if-request-eq-PRIMARY_SIB.false)

@@ -5,4 +5,4 @@ use Rattle.table_build.proofs.put_cell.Goals as goal
 
 pub returns : goal.returns
 returns c =
-    cell-stored _ _ _ _ c.requires.0 c.requires.1 c.put_head.ensures c.clear.ensures
+    cell-stored _ _ _ _ c.requires.0 c.requires.1 c.put_head.ensures (c.fill.ensures.after (λ y e. e))

@@ -5,6 +5,6 @@ use Rattle.table_build.proofs.put_head.Goals as goal
 
 pub returns : goal.returns
 returns c =
-    head-stored c.args.cell.now c.args.head.now (λ i. (c.shared_slice_known-1.given i).fits) c.requires.0
-    c.get64.ensures c.get64-2.ensures c.get64-3.ensures
-    c.put64.ensures c.put64-2.ensures c.put64-3.ensures
+    head-stored c.args.cell.now c.args.head.now (λ i. (c.type_inv.head i).fits) c.requires.0
+    c.get.ensures c.get-2.ensures c.get-3.ensures
+    c.put.ensures c.put-2.ensures c.put-3.ensures

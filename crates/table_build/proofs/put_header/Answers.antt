@@ -5,4 +5,4 @@ use Rattle.table_build.proofs.put_header.Goals as goal
 
 pub returns : goal.returns
 returns c =
-    header-stored c.args.count c.requires.1 c.args.table.now c.put64.ensures c.put64-2.ensures
+    header-stored c.args.count c.requires.1 c.args.table.now c.put.ensures c.put-2.ensures

@@ -5,14 +5,14 @@ use Rattle.table_judge.proofs.ReadLaws.{areas-at, areas-none, areas-one, areas-t
 use Rattle.table_judge.proofs.areas_legal.Goals as goal
 
 pub returns-then-used-eq0 : goal.returns-then-used-eq0
-returns-then-used-eq0 c = rw (c.if-used-eq0.true, ← areas-at _ c.requires, c.get64.ensures, c.get32.ensures) (areas-none _)
+returns-then-used-eq0 c = rw (c.if-used-eq0.true, ← areas-at _ c.requires, c.get.ensures, c.get-then-used-eq0.ensures) (areas-none _)
 
 pub returns-then-used-eq1 : goal.returns-then-used-eq1
-returns-then-used-eq1 c = rw (c.if-used-eq1.true, ← areas-at _ c.requires, c.get8.ensures, c.get64-then-used-eq1.ensures) (areas-one _)
+returns-then-used-eq1 c = rw (c.if-used-eq1.true, ← areas-at _ c.requires, c.get-then-used-eq1.ensures, c.get-then-used-eq1-2.ensures) (areas-one _)
 
 pub returns-then-used-eq2 : goal.returns-then-used-eq2
 returns-then-used-eq2 c =
-    rw (c.if-used-eq2.true, ← areas-at _ c.requires, c.upper24-a.ensures, c.upper24-b.ensures, c.get16.ensures, c.get32-then-used-eq2.ensures)
+    rw (c.if-used-eq2.true, ← areas-at _ c.requires, c.upper24-a.ensures, c.upper24-b.ensures, c.get-then-used-eq2.ensures, c.get-then-used-eq2-2.ensures)
     (areas-two _)
 
 pub returns-then-used-eq3 : goal.returns-then-used-eq3

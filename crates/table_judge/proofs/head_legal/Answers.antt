@@ -11,4 +11,4 @@ pub returns : goal.returns
 unfolding offset
 returns c =
     let used = field_at (head_fields current) areas_used_in_head c.args.head.now (omega (arith, c.requires)) in
-    rw (c.identity_at.ensures, c.areas_legal.ensures, c.get8.ensures, ← used) (head_parts _ c.requires)
+    rw (c.identity_at.ensures, c.areas_legal.ensures, c.get.ensures, ← used) (head_parts _ c.requires)

@@ -12,10 +12,10 @@ pub returns-then-table-lt-HEADER : goal.returns-then-table-lt-HEADER
 returns-then-table-lt-HEADER c = header-short _ _ c.if-table-lt-HEADER.true
 
 pub overflow_mul-result : goal.overflow_mul-result
-overflow_mul-result c = let few = cells-most c.get16-count.ensures c.requires in omega arith
+overflow_mul-result c = let few = cells-most c.get-count.ensures c.requires in omega arith
 
 pub overflow_add-result : goal.overflow_add-result
-overflow_add-result c = let few = cells-most c.get16-count.ensures c.requires in omega arith
+overflow_add-result c = let few = cells-most c.get-count.ensures c.requires in omega arith
 
 pub returns : goal.returns
 unfolding legal_header offset
@@ -23,9 +23,9 @@ returns c =
     let t = c.args.table.now in
     let long = c.if-table-lt-HEADER.false in
     rw (
-      c.get16-count.ensures,
-      c.get8.ensures,
-      c.get64.ensures,
+      c.get-count.ensures,
+      c.get.ensures,
+      c.get-2.ensures,
       ← field_at header_fields cells_in_header t (omega (arith, long)),
       ← field_at header_fields places_in_header t (omega (arith, long)),
       ← field_at header_fields zero_in_header t (omega (arith, long)),

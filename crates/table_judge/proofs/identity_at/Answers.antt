@@ -5,4 +5,4 @@ use Rattle.table_judge.proofs.ReadLaws.{identity-read}
 use Rattle.table_judge.proofs.identity_at.Goals as goal
 
 pub returns : goal.returns
-returns c = c.get64.ensures ∙ identity-read _ _ c.requires
+returns c = c.get.ensures ∙ identity-read _ _ c.requires

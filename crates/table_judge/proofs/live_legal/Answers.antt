@@ -14,9 +14,9 @@ returns c =
     let b = c.args.place.now in
     let long = c.requires in
     rw (
-      c.get8.ensures,
+      c.get.ensures,
       ← field_at (place_fields current) live_in_place b (omega (arith, long)),
-      c.get16.ensures,
+      c.get-2.ensures,
       ← field_at (place_fields current) zero_in_place b (omega (arith, long)),
       c.terms_legal.ensures,
       c.place_of.ensures,

@@ -21,6 +21,6 @@ unfolding table_marked offset
 returns c =
     let t = c.args.table.now in
     let long : 5 ≤ length t = omega (arith, c.if-table-lt-CELLS_AT.false) in
-    rw (c.get32.ensures, c.get8.ensures)
-    (mark_and_version t (λ i. (c.shared_slice_known-1.given i).fits) table_mark _ (omega arith)
+    rw (c.get.ensures, c.get-2.ensures)
+    (mark_and_version t (λ i. (c.type_inv.table i).fits) table_mark _ (omega arith)
     ∙ rw (le-leb 5 (length t) long, ← field_at header_fields mark_field t (omega (arith, long)), ← field_at header_fields version_field t (omega (arith, long))))

@@ -4,4 +4,4 @@ use Rattle.table_judge.proofs.ReadLaws.{free-wide}
 use Rattle.table_judge.proofs.place_free.Goals as goal
 
 pub returns : goal.returns
-returns c = rw (c.get64.ensures, c.get64-2.ensures, c.get64-3.ensures) (free-wide _ _)
+returns c = rw (c.get.ensures, c.get-2.ensures, c.get-3.ensures) (free-wide _ _)

@@ -13,20 +13,20 @@ returns c =
     let b = c.args.place.now in
     let long = c.requires in
     rw (
-      c.get16.ensures,
+      c.get.ensures,
       ← field_at (place_fields current) identifier_in_place b (omega (arith, long)),
-      c.get16-2.ensures,
+      c.get-2.ensures,
       ← field_at (place_fields current) serial_in_place b (omega (arith, long)),
-      c.get32.ensures,
+      c.get-3.ensures,
       ← field_at (place_fields current) content_in_place b (omega (arith, long)),
-      c.get32-2.ensures,
+      c.get-4.ensures,
       ← field_at (place_fields current) period_in_place b (omega (arith, long)),
-      c.get16-3.ensures,
+      c.get-5.ensures,
       ← field_at (place_fields current) requested_in_place b (omega (arith, long)),
-      c.get16-4.ensures,
+      c.get-6.ensures,
       ← field_at (place_fields current) sent_in_place b (omega (arith, long)),
-      c.get32-3.ensures,
+      c.get-7.ensures,
       ← field_at (place_fields current) wait_in_place b (omega (arith, long)),
-      c.get8.ensures,
+      c.get-8.ensures,
       ← field_at (place_fields current) sib_in_place b (omega (arith, long)),
     )

@@ -4,4 +4,4 @@ use Rattle.table_judge.proofs.ReadLaws.{upper_three}
 use Rattle.table_judge.proofs.upper24.Goals as goal
 
 pub returns : goal.returns
-returns c = upper_three _ (λ i. (c.shared_slice_known-1.given i).fits) c.args.at c.get32.ensures
+returns c = upper_three _ (λ i. (c.type_inv.s i).fits) c.args.at c.get.ensures

@@ -9,4 +9,4 @@ use Rattle.engine.proofs.apply.cells_of.Goals as goal
 
 pub returns : goal.returns
 unfolding offset
-returns c = c.get16.ensures ∙ sym (field_at header_fields cells_in_header c.args.table.now (omega (arith, c.requires)))
+returns c = c.get.ensures ∙ sym (field_at header_fields cells_in_header c.args.table.now (omega (arith, c.requires)))

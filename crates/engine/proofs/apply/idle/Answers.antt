@@ -4,10 +4,10 @@ use borrow.Author.Tests.{eq-eqb, ne_eqb}
 use Rattle.engine.specs.Walk.{is_idle}
 use Rattle.engine.proofs.apply.idle.Goals as goal
 
-pub returns-then-request-ne-WRITE_REPLACE : goal.returns-then-request-ne-WRITE_REPLACE
+pub returns-then-request-eq-WRITE_REPLACE : goal.returns-then-request-eq-WRITE_REPLACE
 unfolding is_idle
-returns-then-request-ne-WRITE_REPLACE c = rw (ne_eqb _ _ c.if-request-ne-WRITE_REPLACE.true)
+returns-then-request-eq-WRITE_REPLACE c = rw (eq-eqb _ _ c.if-request-eq-WRITE_REPLACE.true, c.starts_nothing.ensures)
 
-pub returns : goal.returns
+pub returns-else-request-eq-WRITE_REPLACE : goal.returns-else-request-eq-WRITE_REPLACE
 unfolding is_idle
-returns c = rw (eq-eqb _ _ c.if-request-ne-WRITE_REPLACE.false, c.starts_nothing.ensures)
+returns-else-request-eq-WRITE_REPLACE c = rw (ne_eqb _ _ c.if-request-eq-WRITE_REPLACE.false)

@@ -8,7 +8,7 @@ use Rattle.in_cell.proofs.second.air.Goals as goal
 pub returns : goal.returns
 returns c =
     aired c.args.cell.now c.args.out.now c.args.k c.args.n c.requires _ _ _ _ _
-    (c.one_more-sent.ensures ∙ rw c.sent-before.ensures)
+    (c.one_more-sent.ensures ∙ rw c.sent.ensures)
     (c.one_less-wait.ensures ∙ rw c.terms_of-terms.ensures.0)
     (ap (λ (x : Broadcasts). x.0) c.terms_of-terms.ensures.1)
     c.identity-identity.ensures

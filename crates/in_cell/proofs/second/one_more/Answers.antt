@@ -1,13 +1,16 @@
--- `one_more` gives one more, but stays at the most.
--- The rule's own two cases.
+-- `one_more` gives one more, but stays at the most: the rule's own two cases, said by the lesser of two numbers.
+use native.Mathlib.Omega.{arith}
+use lib.Dec.{ltb}
+use borrow.Author.Tests.{ltb-true, ltb-false}
+use Rattle.rules.specs.Layout.{most_sent}
 use Rattle.rules.specs.InCell.{one_more}
-use borrow.Author.Tests.{lt-ltb, le-ltb}
+use Rattle.rules.proofs.TestLaws.{by_test}
 use Rattle.in_cell.proofs.second.one_more.Goals as goal
 
-pub returns-then-sent-lt-MOST_SENT : goal.returns-then-sent-lt-MOST_SENT
+pub returns : goal.returns
 unfolding one_more
-returns-then-sent-lt-MOST_SENT c = rw (lt-ltb _ _ c.if-sent-lt-MOST_SENT.true)
-
-pub returns-else-sent-lt-MOST_SENT : goal.returns-else-sent-lt-MOST_SENT
-unfolding one_more
-returns-else-sent-lt-MOST_SENT c = rw (le-ltb _ _ c.if-sent-lt-MOST_SENT.false)
+returns c =
+    let n = c.args.sent.0 in
+    by_test (ltb n most_sent)
+    (λ t. let below = ltb-true n most_sent t in rw t (omega arith))
+    (λ t. let most = ltb-false n most_sent t in rw t (omega arith))

@@ -1,5 +1,5 @@
 -- `build_table` builds a table in the front of its buffer, or tells the refusal and leaves the buffer as it was.
--- By what the builder answered, from where it was called: `called`.
+use Rattle.std.specs.Prelude.{None}
 use mathlib.Core.Path.{◌≡◌, refl, sym, ◌∙◌}
 use native.Mathlib.Omega.{arith}
 use lib.ListN.{length, take}
@@ -17,20 +17,20 @@ part-long c = length-take-le (table_size c.args.cells) c.args.table.now (omega a
 pub slice_bounds-build-end-2 : goal.slice_bounds-build-end-2
 slice_bounds-build-end-2 c = sym (part-long (goal.at.slice_bounds-build-end-2 c).Start)
 
-pub returns-in_err : goal.returns-in_err
-returns-in_err c =
+pub returns-in-Err : goal.returns-in-Err
+returns-in-Err c =
     let told = c.refuse in
     let number = c.number in
     let x = c.build in
     let a = c.args in
-    λ lent room. refused_stepped a.cells a.heads.now a.table.now lent x.new.table a.out.now a.at x.result x.ensures
-    c.in_err.refusal number.result told.result told.new.out c.in_err.is number.ensures
-    (told.ensures (record { cells = 0; table = a.table.now; answer = lent }) refl)
+    λ lent room. refused_stepped a.cells a.heads.now a.table.now lent x.new.table a.text.now x.result x.ensures
+    c.in-Err.refusal number.result told.result told.new.text c.in-Err.is number.ensures
+    (told.ensures (record { cells = None; table = a.table.now; answer = lent }) refl)
 
 pub returns : goal.returns
 returns c =
     let x = c.build in
     let a = c.args in
-    let w = written-if _ c.in_default.not-Unwritten in
-    λ lent room. made_stepped a.cells a.heads.now a.table.now lent x.new.table a.out.now a.at x.result x.ensures
+    let w = written-if _ c.in_default.not-Err in
+    λ lent room. made_stepped a.cells a.heads.now a.table.now lent x.new.table a.text.now x.result x.ensures
     w.0 w.1 (x.auto.table ∙ part-long (goal.at.returns c).Start) (omega arith) (room_within a.cells _ (omega arith) room)

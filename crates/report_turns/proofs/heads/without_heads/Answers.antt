@@ -6,4 +6,4 @@ pub returns-then-never : goal.returns-then-never
 returns-then-never c = λ p none. rw c.if-never.true (c.refuse.ensures p none)
 
 pub returns : goal.returns
-returns c = λ p none. rw c.if-never.false (waiting_stepped p none c.args.out.now c.args.at)
+returns c = λ p none. rw c.if-never.false (waiting_stepped p none c.args.text.now)

@@ -7,39 +7,35 @@ use lib.ListN.{length}
 use lib.Seq.{length-take-le}
 use Rattle.rules.specs.Layout.{most_cells}
 use Rattle.report_turns.specs.Report.{answer_room, table_size}
-use Rattle.report_turns.proofs.RoomLaws.{room_of, room_within, second-known}
-use Rattle.report_turns.proofs.ServedLaws.{nothing_stepped, request_stepped}
+use Rattle.report_turns.proofs.RoomLaws.{room_of, room_within}
+use Rattle.report_turns.proofs.ServedLaws.{stops_stepped, waits_stepped, request_stepped}
 use Rattle.report_turns.proofs.requests.serve_next.Goals.{After-room_for-room, Start}
 use Rattle.report_turns.proofs.requests.serve_next.Goals as goal
 
 -- the front parts of both buffers, and the room of the answer once it is known
 table_fits : (c : Start) → table_size c.args.cells ≤ length c.args.table.now
-table_fits c = omega (arith, c.requires.to_take.few, c.requires.to_take.table-room)
+table_fits c = omega (arith, c.requires.few, c.requires.table-room)
 
 answer-fits : (c : Start) → answer_room c.args.cells ≤ length c.args.answer.now
-answer-fits c = room_within c.args.cells (length c.args.answer.now) c.requires.to_take.few c.requires.to_take.answer-room
+answer-fits c = room_within c.args.cells (length c.args.answer.now) c.requires.few c.requires.answer-room
 
 room_fits : (c : After-room_for-room) → c.room_for-room.result ≤ length c.args.answer.now
 room_fits c =
-    omega (arith, c.room_for-room.ensures, room_within c.args.cells (length c.args.answer.now) c.requires.to_take.few c.requires.to_take.answer-room)
+    omega (arith, c.room_for-room.ensures, room_within c.args.cells (length c.args.answer.now) c.requires.few c.requires.answer-room)
 
-pub returns-then-size-eq0 : goal.returns-then-size-eq0
-returns-then-size-eq0 c =
-    let f = c.frame-size in
+pub returns-then-held : goal.returns-then-held
+returns-then-held c =
     let a = c.args in
-    nothing_stepped a.cells a.table.now a.answer.now a.out.now a.at (table_fits (goal.at.returns-then-size-eq0 c).Start) (answer-fits (goal.at.returns-then-size-eq0 c).Start) c.requires.table_open
-    a.held.now a.ended f.result f.ensures.value (omega arith)
+    let s = (goal.at.returns-then-held c).Start in
+    stops_stepped a.cells a.table.now a.answer.now a.text.now (table_fits s) (answer-fits s) a.held.bytes.now a.held.ended
+    (sym c.in_default.is ∙ c.frame.ensures.value) c.if-held.true
 
-pub room_for-room-requires : goal.room_for-room-requires
-room_for-room-requires c = (omega (arith, c.requires.to_take.few), second-known)
-
-pub slice_bounds-serve-end-2 : goal.slice_bounds-serve-end-2
-slice_bounds-serve-end-2 c =
-    sym (length-take-le (table_size c.args.cells) c.args.table.now (table_fits (goal.at.slice_bounds-serve-end-2 c).Start))
-
-pub slice_bounds-serve-end-3 : goal.slice_bounds-serve-end-3
-slice_bounds-serve-end-3 c =
-    sym (length-take-le c.frame-size.result c.args.held.now c.frame-size.ensures.upper_bound)
+pub returns-else-held : goal.returns-else-held
+returns-else-held c =
+    let a = c.args in
+    let s = (goal.at.returns-else-held c).Start in
+    waits_stepped a.cells a.table.now a.answer.now a.text.now (table_fits s) (answer-fits s) a.held.bytes.now a.held.ended
+    (sym c.in_default.is ∙ c.frame.ensures.value) c.if-held.false
 
 pub slice_bounds-serve-end-4 : goal.slice_bounds-serve-end-4
 slice_bounds-serve-end-4 c = room_fits (goal.at.slice_bounds-serve-end-4 c).After-room_for-room
@@ -48,21 +44,20 @@ pub slice_bounds-serve-end-5 : goal.slice_bounds-serve-end-5
 slice_bounds-serve-end-5 c =
     sym (length-take-le c.room_for-room.result c.args.answer.now (room_fits (goal.at.slice_bounds-serve-end-5 c).After-room_for-room))
 
-pub serve-turn-requires : goal.serve-turn-requires
-serve-turn-requires c =
-    let p = c.requires.to_take in
-    let long = length-take-le c.room_for-room.result c.args.answer.now (room_fits (goal.at.serve-turn-requires c).After-room_for-room) in
-    let most = room_of c.args.cells in
-    record { answer_len_bound = omega (arith, long, most, room_of most_cells, c.room_for-room.ensures, p.few); room_for_text = p.text-room }
+pub serve-next-requires-clause-answer_bounded : goal.serve-next-requires-clause-answer_bounded
+serve-next-requires-clause-answer_bounded c =
+    let p = c.requires in
+    let long = length-take-le c.room_for-room.result c.args.answer.now (room_fits (goal.at.serve-next-requires-clause-answer_bounded c).After-room_for-room) in
+    omega (arith, long, room_of c.args.cells, room_of most_cells, c.room_for-room.ensures, p.few)
 
 pub returns : goal.returns
 returns c =
     let a = c.args in
-    let f = c.frame-size in
-    let s = c.serve-turn in
-    let table-long = length-take-le (table_size a.cells) a.table.now (table_fits (goal.at.returns c).Start) in
-    let answer-long = length-take-le c.room_for-room.result a.answer.now (room_fits (goal.at.returns c).After-room_for-room) in
-    request_stepped a.cells a.table.now a.answer.now a.out.now a.at (table_fits (goal.at.returns c).Start) (answer-fits (goal.at.returns c).Start) c.requires.table_open
-    a.held.now a.ended f.result f.ensures.value c.if-size-eq0.false c.room_for-room.result c.room_for-room.ensures
-    s.new.table s.new.answer s.new.out s.result s.ensures.served s.ensures.end_bound
-    (s.auto.table ∙ table-long) (s.auto.answer ∙ answer-long)
+    let x = c.serve-next in
+    let at = goal.at.returns c in
+    let table-long = length-take-le (table_size a.cells) a.table.now (table_fits at.Start) in
+    let answer-long = length-take-le c.room_for-room.result a.answer.now (room_fits at.After-room_for-room) in
+    request_stepped a.cells a.table.now a.answer.now a.text.now (table_fits at.Start) (answer-fits at.Start) a.held.bytes.now a.held.ended
+    c.in-Some.size (sym c.in-Some.is ∙ c.frame.ensures.value) c.room_for-room.result c.room_for-room.ensures
+    x.new.table x.new.answer x.new.text x.result x.ensures.served x.ensures.room_taken
+    (x.auto.table ∙ table-long) (x.auto.answer ∙ answer-long)

@@ -4,4 +4,4 @@ use Rattle.segments.proofs.Packing.{segment-stored}
 use Rattle.segments.proofs.pack.put_segment.Goals as goal
 
 pub returns : goal.returns
-returns c = segment-stored _ _ _ _ _ c.put16.ensures c.copy.ensures
+returns c = segment-stored _ _ _ _ _ c.put.ensures c.copy.ensures

@@ -27,7 +27,7 @@ sub-segments c = search rules
 add_from : tie.Need-overflow_add-from invariant_segments decreases_segments
 add_from c = search rules
 
-get16-requires : tie.Need-get16-size-requires invariant_segments decreases_segments
+get16-requires : tie.Need-get-size-requires invariant_segments decreases_segments
 get16-requires c κs = search rules
 
 cast-size : tie.Need-overflow_cast-size invariant_segments decreases_segments
@@ -48,7 +48,7 @@ segments-less c = omega (arith, c.before.before.before.before.segments.invariant
 segments-again : tie.Need-segments-preserved-then-count-k invariant_segments decreases_segments
 segments-again c =
     let there : AtLength = c.before.before.before in
-    scan_finds there.before.segments.invariant _ c.before.before.get16-size.ensures there.segments-test.true c.before.if-more-from.false c.if-count-k.true
+    scan_finds there.before.segments.invariant _ c.before.before.get-size.ensures there.segments-test.true c.before.if-more-from.false c.if-count-k.true
 
 segments-less-2 : tie.Need-segments-smaller invariant_segments decreases_segments
 segments-less-2 c = omega (arith, c.before.before.before.before.segments.invariant.within)
@@ -56,7 +56,7 @@ segments-less-2 c = omega (arith, c.before.before.before.before.segments.invaria
 segments-again-2 : tie.Need-segments-preserved invariant_segments decreases_segments
 segments-again-2 c =
     let there : AtLength = c.before.before.before in
-    scan-passes there.before.segments.invariant _ c.before.before.get16-size.ensures there.segments-test.true c.before.if-more-from.false c.if-count-k.false
+    scan-passes there.before.segments.invariant _ c.before.before.get-size.ensures there.segments-test.true c.before.if-more-from.false c.if-count-k.false
 
 returns : tie.Need-returns-after-segments invariant_segments decreases_segments
 returns c = scan-ends _ c.before.segments.invariant (cut-length c.before.segments.invariant c.segments-test.false)
@@ -64,7 +64,7 @@ returns c = scan-ends _ c.before.segments.invariant (cut-length c.before.segment
 returns-2 : tie.Need-returns-then-more-from invariant_segments decreases_segments
 returns-2 c =
     let there : AtLength = c.before.before in
-    scan-ends _ there.before.segments.invariant (cut-segment there.before.segments.invariant _ c.before.get16-size.ensures there.segments-test.true c.if-more-from.true)
+    scan-ends _ there.before.segments.invariant (cut-segment there.before.segments.invariant _ c.before.get-size.ensures there.segments-test.true c.if-more-from.true)
 
 pub scan_spec : {M : Type 1} → statement M
 scan_spec =

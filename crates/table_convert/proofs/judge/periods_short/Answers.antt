@@ -5,5 +5,5 @@ use Rattle.table_convert.proofs.judge.periods_short.Goals as goal
 
 pub returns : goal.returns
 returns c =
-    rw (c.get16.ensures, c.get16-2.ensures, c.get16-3.ensures, c.get16-4.ensures)
+    rw (c.get.ensures, c.get-2.ensures, c.get-3.ensures, c.get-4.ensures)
     (periods c.args.cell.now c.requires)

@@ -5,6 +5,6 @@ use Rattle.table_convert.proofs.wide.widen_place.Goals as goal
 
 pub returns : goal.returns
 returns c =
-    place-stored c.args.wide.now c.args.cell.now c.args.to c.args.from (λ i. (c.shared_slice_known-1.given i).fits)
-    c.get64.ensures c.get64-2.ensures c.get16.ensures c.get32.ensures
-    c.put64.ensures c.put64-2.ensures c.put32.ensures c.put32-2.ensures
+    place-stored c.args.wide.now c.args.cell.now c.args.to c.args.from (λ i. (c.type_inv.cell i).fits)
+    c.get.ensures c.get-2.ensures c.get-3.ensures c.get-4.ensures
+    c.put.ensures c.put-2.ensures c.put-3.ensures c.put-4.ensures

@@ -1,4 +1,5 @@
 -- `other_frame` answers with what the outer frame says: choice and procedure code are read as an element's id, and that is not the message's own.
+use Rattle.std.specs.Prelude.{Some}
 use mathlib.Core.Path.{◌≡◌}
 use Prim.Native.Nat.{◌/◌, ◌≤◌}
 use native.Mathlib.Omega.{arith}
@@ -8,10 +9,9 @@ use Rattle.octets.specs.Numbers.{be}
 use Rattle.formats.specs.Format.{after}
 use Rattle.aper.specs.Elements.{plain}
 use Rattle.aper.specs.Readers.{ElementAt}
-use Rattle.aper.specs.declared.Step.TheVariants.{One}
 use Rattle.wire.specs.Frame.{outer}
 use Rattle.wire_judge.proofs.FrameLaws.{framed_as, frame-empty, frame-padding, frame-none, frame-criticality, frame-behind, frame-other, framing-plain, other-own}
-use Rattle.wire_judge.proofs.framing.other_frame.Goals.{Else-choice, In-One}
+use Rattle.wire_judge.proofs.framing.other_frame.Goals.{Else-choice, In-Some}
 use Rattle.wire_judge.proofs.framing.other_frame.Goals as goal
 
 -- a choice that is no extension, and an element there
@@ -19,31 +19,31 @@ some : (c : Else-choice) → 1 ≤ length c.args.s.now
 some c = omega (arith, c.if-s-eq0.false)
 
 framing : (c : Else-choice)
-    → outer.parse c.args.s.now ≡ after (plain.parse (drop 0 c.args.s.now)) (framed_as (c.get8-choice.result / 64) (be (gets c.args.s.now 1 1)))
-framing c = framing-plain _ _ (some c) c.get8-choice.ensures c.if-choice-ne0.false c.if-choice.false
+    → outer.parse c.args.s.now ≡ after (plain.parse (drop 0 c.args.s.now)) (framed_as (c.get-choice.result / 64) (be (gets c.args.s.now 1 1)))
+framing c = framing-plain _ _ (some c) c.get-choice.ensures c.if-choice-ne0.false c.if-choice.false
 
-read : (c : In-One)
-    → ElementAt c.args.s.now 0 (One c.in-One.field-0 c.in-One.criticality c.in-One.field-2 c.in-One.end)
-read c = rw c.in-One.is at c.element_at.ensures
+read : (c : In-Some)
+    → ElementAt c.args.s.now 0 (Some c.in-Some.element)
+read c = rw c.in-Some.is at c.element_at.ensures
 
 pub returns-then-s-eq0 : goal.returns-then-s-eq0
 returns-then-s-eq0 c = frame-empty _ _ c.if-s-eq0.true
 
 pub returns-then-choice-ne0 : goal.returns-then-choice-ne0
-returns-then-choice-ne0 c = frame-padding _ _ (omega (arith, c.if-s-eq0.false)) c.get8-choice.ensures _ c.if-choice-ne0.true
+returns-then-choice-ne0 c = frame-padding _ _ (omega (arith, c.if-s-eq0.false)) c.get-choice.ensures _ c.if-choice-ne0.true
 
-pub returns-then-criticality-ge-CRITICALITIES : goal.returns-then-criticality-ge-CRITICALITIES
-returns-then-criticality-ge-CRITICALITIES c = frame-criticality _ _ 0 _ _ (framing (goal.at.returns-then-criticality-ge-CRITICALITIES c).Else-choice) _ _ _ _ (read (goal.at.returns-then-criticality-ge-CRITICALITIES c).In-One) c.if-criticality-ge-CRITICALITIES.true
+pub returns-then-element-ge-CRITICALITIES : goal.returns-then-element-ge-CRITICALITIES
+returns-then-element-ge-CRITICALITIES c = frame-criticality _ _ 0 _ _ (framing (goal.at.returns-then-element-ge-CRITICALITIES c).Else-choice) _ _ _ _ (read (goal.at.returns-then-element-ge-CRITICALITIES c).In-Some) c.if-element-ge-CRITICALITIES.true
 
-pub returns-then-end-s : goal.returns-then-end-s
-returns-then-end-s c =
-    frame-behind _ _ 0 _ _ (framing (goal.at.returns-then-end-s c).Else-choice) _ _ _ _ (read (goal.at.returns-then-end-s c).In-One) c.if-criticality-ge-CRITICALITIES.false c.if-end-s.true
+pub returns-then-element-s : goal.returns-then-element-s
+returns-then-element-s c =
+    frame-behind _ _ 0 _ _ (framing (goal.at.returns-then-element-s c).Else-choice) _ _ _ _ (read (goal.at.returns-then-element-s c).In-Some) c.if-element-ge-CRITICALITIES.false c.if-element-s.true
 
-pub returns-in-NoElement : goal.returns-in-NoElement
-returns-in-NoElement c = frame-none _ _ 0 _ _ (framing (goal.at.returns-in-NoElement c).Else-choice) (rw c.in-NoElement.is at c.element_at.ensures)
+pub returns-in-None : goal.returns-in-None
+returns-in-None c = frame-none _ _ 0 _ _ (framing (goal.at.returns-in-None c).Else-choice) (rw c.in-None.is at c.element_at.ensures)
 
-pub returns-else-end-s : goal.returns-else-end-s
-returns-else-end-s c =
+pub returns-else-element-s : goal.returns-else-element-s
+returns-else-element-s c =
     let bytes : Bytes c.args.s.now = λ i. (c.shared_slice_known-1.given i).fits in
-    frame-other _ _ 0 _ _ (framing (goal.at.returns-else-end-s c).Else-choice) _ _ _ _ (read (goal.at.returns-else-end-s c).In-One) c.if-criticality-ge-CRITICALITIES.false c.if-end-s.false
-    (other-own c.args.m _ bytes _ _ _ _ _ (some (goal.at.returns-else-end-s c).Else-choice) c.get8-choice.ensures (read (goal.at.returns-else-end-s c).In-One) c.if-choice-ne0.false c.requires c.if-criticality-ge-CRITICALITIES.false c.if-end-s.false)
+    frame-other _ _ 0 _ _ (framing (goal.at.returns-else-element-s c).Else-choice) _ _ _ _ (read (goal.at.returns-else-element-s c).In-Some) c.if-element-ge-CRITICALITIES.false c.if-element-s.false
+    (other-own c.args.m _ bytes _ _ _ _ _ (some (goal.at.returns-else-element-s c).Else-choice) c.get-choice.ensures (read (goal.at.returns-else-element-s c).In-Some) c.if-choice-ne0.false c.requires c.if-element-ge-CRITICALITIES.false c.if-element-s.false)
