@@ -1,15 +1,17 @@
 -- What the converter stores of a cell is the widened cell, and what it reads of the periods is whether each is short.
 -- The four places, written out, lie one behind the other, and stores one behind the other are one store.
-use mathlib.Core.Path.{◌≡◌, sym, ap, ◌∙◌}
-use mathlib.Core.Bool.{◌&&◌, and-true, and_assoc}
-use mathlib.Core.List.{List, [], ◌∷◌, ◌++◌, flat_map, append_assoc, append-nil}
-use Prim.Native.Nat.{ℕ, ◌+◌, ◌-◌, ◌*◌}
+use mathlib.Core.Path.{◌≡◌, refl, sym, ap, ◌∙◌}
+use mathlib.Core.Bool.{Bool, true, false, ◌&&◌, and-true, and-false, and_assoc}
+use mathlib.Core.List.{List, [], ◌∷◌, flat_map, append-nil}
+use Prim.Native.Nat.{ℕ, zero, suc, ◌+◌, ◌-◌, ◌*◌, ◌≤◌, ◌<◌}
 use native.Mathlib.Omega.{arith}
 use lib.Dec.{leb}
+use Rattle.std.specs.Bool.{MatchBool}
+use Rattle.std.specs.List.{range_with_len, AllWithin, HoldsAt}
 use borrow.Rule.Slice.PartMut.{put_mid}
-use lib.ListN.{length, take, drop, length-append, length-drop, drop_of_length-le}
+use lib.ListN.{length, get_or, take, drop, length-drop, drop_of_length-le}
 use lib.Seq.{sets, length-sets, length-take-le, take_at, drop-length}
-use Rattle.octets.specs.Runs.{gets}
+use Rattle.octets.specs.Runs.{gets, pieces}
 use Rattle.octets.specs.Numbers.{be}
 use Rattle.octets.specs.Fields.{field_of}
 use Rattle.octets.proofs.RunsLaws.{length-gets, gets-gets, sets-run, sets_front}
@@ -37,26 +39,33 @@ four-places cell long =
       pieces_none 20 0 (drop 104 cell) (omega arith),
     )
 
-module _ (wide cell : List ℕ) (room : length wide ≡ place_size current * places_per_cell) (long : length cell ≡ cell_size version1) where
-  -- the place from an index on, widened
-  abbrev new : ℕ → List ℕ
-  new i = wide_place (gets cell i (place_size version1))
+-- the places widened one by one: wide is what k of them left
+pub record PlacesLeft (wide₀ cell wide : List ℕ) (k : ℕ) : Type 0 where
+  pub same : sets wide₀ 0 (wide_places cell) ≡ sets wide (place_size current * k) (flat_map wide_place (pieces (place_size version1) (places_per_cell - k) (drop (head_size version1 + place_size version1 * k) cell)))
 
-  parts_of_cell : wide_places cell ≡ ((new 24 ++ new 44) ++ new 64) ++ new 84
-  unfolding wide_places flat_map
-  parts_of_cell = rw (four-places cell long) (simp (append_assoc, append-nil))
+pub places-start : (wide cell : List ℕ) → PlacesLeft wide cell wide 0
+unfolding wide_places
+places-start wide cell = record { same = refl }
 
-  pub places_widened : {a b c d : List ℕ} → a ≡ sets wide 0 (new 24) → b ≡ sets a 24 (new 44) → c ≡ sets b 48 (new 64) → d ≡ sets c 72 (new 84) → d ≡ wide_places cell
-  places_widened p q r s =
-      let whole : length (wide_places cell) ≡ length wide = length-wide_places cell ∙ sym room in
-      let all : sets (sets (sets (sets wide 0 (new 24)) 24 (new 44)) 48 (new 64)) 72 (new 84) ≡ sets wide 0 (wide_places cell) =
-      rw (
-        sets-run (new 24) (new 44) wide 0 24 (rw length-wide),
-        sets-run (new 24 ++ new 44) (new 64) wide 0 48 (rw (length-append, length-wide, length-wide)),
-        sets-run ((new 24 ++ new 44) ++ new 64) (new 84) wide 0 72 (rw (length-append, length-append, length-wide, length-wide, length-wide)),
-        parts_of_cell,
-      ) in
-      rw (s, r, q, p) (all ∙ rw (sets_front wide (wide_places cell) (omega arith), whole, drop-length wide) (append-nil (wide_places cell)))
+pub places_on : {wide₀ cell wide : List ℕ} {k : ℕ} → PlacesLeft wide₀ cell wide k → k < places_per_cell → length cell ≡ cell_size version1
+    → (new : List ℕ) → new ≡ sets wide (place_size current * k) (wide_place (gets cell (head_size version1 + place_size version1 * k) (place_size version1))) → PlacesLeft wide₀ cell new (k + 1)
+unfolding flat_map
+places_on {cell} {wide} {k} p more long new e =
+    let from = head_size version1 + place_size version1 * k in
+    let place = wide_place (gets cell from (place_size version1)) in
+    let next : head_size version1 + place_size version1 * (k + 1) ≡ from + place_size version1 = omega arith in
+    let fewer : places_per_cell - (k + 1) ≡ places_per_cell - k - 1 = omega arith in
+    record {
+      same = p.same ∙ rw (e, next, fewer, pieces-next (place_size version1) (places_per_cell - k) cell from (omega arith) (omega (arith, long)))
+          (sym (sets-run place _ wide (place_size current * k) (place_size current * (k + 1)) (rw length-wide (omega arith))));
+    }
+
+pub places-end : {wide₀ cell wide : List ℕ} {k : ℕ} → PlacesLeft wide₀ cell wide k → places_per_cell ≤ k → length wide₀ ≡ place_size current * places_per_cell → wide ≡ wide_places cell
+unfolding flat_map
+places-end {wide₀} {cell} {wide} {k} p end room =
+    let whole : length (wide_places cell) ≡ length wide₀ = length-wide_places cell ∙ sym room in
+    let none = pieces_none (place_size version1) (places_per_cell - k) (drop (head_size version1 + place_size version1 * k) cell) (omega arith) in
+    sym (sym (rw (sets_front wide₀ (wide_places cell) (omega arith), whole, drop-length wide₀) (append-nil (wide_places cell))) ∙ p.same ∙ rw none)
 
 -- the head stored, and then what is behind it: a after the head, z what was lent after its places
 pub cell_widened : (wide cell : List ℕ) → length wide ≡ cell_size current → length cell ≡ cell_size version1 → {a z : List ℕ} → a ≡ sets wide 0 (take (head_size version1) cell)
@@ -71,10 +80,27 @@ cell_widened wide cell room long {a} {z} p q =
 
 -- ---- the periods
 
-pub periods : (cell : List ℕ) → length cell ≡ cell_size version1
-    → leb (be (gets cell 32 2)) 4095 && leb (be (gets cell 52 2)) 4095 && leb (be (gets cell 72 2)) 4095 && leb (be (gets cell 92 2)) 4095 ≡ short_periods cell
+-- what the code asks of place k
+abbrev pub short_at : List ℕ → ℕ → Bool
+short_at cell k = leb (be (gets cell (24 + 20 * k + 8) 2)) 4095
+
+each-period : (cell : List ℕ) → length cell ≡ cell_size version1 → short_at cell 0 && short_at cell 1 && short_at cell 2 && short_at cell 3 ≡ short_periods cell
 unfolding short_periods short_period every
-periods cell long =
+each-period cell long =
     let at : (i : ℕ) → field_of (place_fields version1) period_in_place (gets cell i (place_size version1)) ≡ be (gets cell (i + 8) 2) =
     λ i. sym (period-at (gets cell i (place_size version1)) (length-gets (place_size version1) cell i)) ∙ ap be (gets-gets 2 (place_size version1) cell i 8 (omega arith)) in
     rw (four-places cell long, at 24, at 44, at 64, at 84) (simp (and-true, and_assoc))
+
+pub periods : (cell : List ℕ) → length cell ≡ cell_size version1 → (r : Bool) → MatchBool r (AllWithin (λ k. short_at cell k ≡ true) (range_with_len 0 4) 0 4) ((k : ℕ) × (k < 4) × HoldsAt (λ k. short_at cell k ≡ false) (range_with_len 0 4) k)
+    → r ≡ short_periods cell
+periods cell long true m =
+    let short : (k : ℕ) → k < 4 → short_at cell (get_or (range_with_len 0 4) k 0) ≡ true = λ k h. m k 0 (omega arith) h in
+    sym (sym (each-period cell long) ∙ rw (short 0 (omega arith), short 1 (omega arith), short 2 (omega arith), short 3 (omega arith)))
+periods cell long false (k, h, long_one) = sym (sym (each-period cell long) ∙ not_all k h (long_one 0))
+  where
+    not_all : (k : ℕ) → k < 4 → short_at cell (get_or (range_with_len 0 4) k 0) ≡ false → short_at cell 0 && short_at cell 1 && short_at cell 2 && short_at cell 3 ≡ false
+    not_all zero h e = rw e
+    not_all (suc zero) h e = rw e (simp and-false)
+    not_all (suc (suc zero)) h e = rw e (simp and-false)
+    not_all (suc (suc (suc zero))) h e = rw e (simp and-false)
+    not_all (suc (suc (suc (suc k)))) h e = absurd (omega arith)

@@ -44,8 +44,5 @@ fn periods_short(cell: &[u8]) -> bool
     requires { length cell.now ≡ cell_size version1 }
     ensures { result ≡ short_periods cell.now }
 {
-    (get::<u16>(cell, HEAD + PERIOD_AT) as u32 <= LONGEST_PERIOD_1)
-        & (get::<u16>(cell, HEAD + PLACE_1 + PERIOD_AT) as u32 <= LONGEST_PERIOD_1)
-        & (get::<u16>(cell, HEAD + 2 * PLACE_1 + PERIOD_AT) as u32 <= LONGEST_PERIOD_1)
-        & (get::<u16>(cell, HEAD + 3 * PLACE_1 + PERIOD_AT) as u32 <= LONGEST_PERIOD_1)
+    (0..PLACES).all(|k| get::<u16>(cell, HEAD + PLACE_1 * k + PERIOD_AT) as u32 <= LONGEST_PERIOD_1)
 }

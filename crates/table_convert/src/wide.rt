@@ -6,7 +6,9 @@ ghost use Rattle.rules.specs.Layout.{version1, current, place_size, places_per_c
 ghost use Rattle.table_convert.specs.Wide.{wide_place, wide_places, wide_cell};
 
 use octets::{get, put};
-use rules::layout::{HEAD, PERIOD_AT, PLACE, PLACE_1, SIB_1_AT, SIB_AT, WAIT_1_AT, WAIT_AT};
+use rules::layout::{
+    HEAD, PERIOD_AT, PLACE, PLACE_1, PLACES, SIB_1_AT, SIB_AT, WAIT_1_AT, WAIT_AT,
+};
 use table_build::put_head;
 
 // The head as it stands, then the places.
@@ -18,15 +20,14 @@ pub fn widen(wide: &mut [u8], cell: &[u8])
     widen_places(&mut wide[HEAD..], cell);
 }
 
-// Each of the four, written out: a loop would not be unrolled.
+// Each of the four.
 pub fn widen_places(wide: &mut [u8], cell: &[u8])
     requires { (length wide.old ≡ place_size current * places_per_cell) × (length cell.now ≡ cell_size version1) }
     ensures { wide.new ≡ wide_places cell.now }
 {
-    widen_place(wide, 0, cell, HEAD);
-    widen_place(wide, PLACE, cell, HEAD + PLACE_1);
-    widen_place(wide, 2 * PLACE, cell, HEAD + 2 * PLACE_1);
-    widen_place(wide, 3 * PLACE, cell, HEAD + 3 * PLACE_1);
+    for k in 0..PLACES {
+        widen_place(wide, PLACE * k, cell, HEAD + PLACE_1 * k);
+    }
 }
 
 // Identifier, serial number and content; period, requested and sent, read with the wait behind them, which goes, and two zero bytes come in

@@ -71,12 +71,12 @@ module _ {l : List ℕ} {at left x y z : ℕ} (p : PlacesLeft l at left x y z) (
       pub places-wrong : not (r && not (eqb t x) && not (eqb t y) && not (eqb t z)) ≡ true → legal_places current (pieces (place_size current) places_per_cell l) ≡ false
       places-wrong e = turn ∙ rw (not-true (r && not (eqb t x) && not (eqb t y) && not (eqb t z)) e)
 
-      pub places_on : not (r && not (eqb t x) && not (eqb t y) && not (eqb t z)) ≡ false → PlacesLeft l (at + place_size current) (left - 1) t x y
-      places_on e =
+      pub places_on : not (r && not (eqb t x) && not (eqb t y) && not (eqb t z)) ≡ false → {next fewer : ℕ} → next ≡ at + place_size current → fewer ≡ left - 1 → PlacesLeft l next fewer t x y
+      places_on e n m =
           let few = p.few in
           let fits = p.fits in
           record {
             few = omega arith;
             fits = omega arith;
-            rest = turn ∙ rw (not-false (r && not (eqb t x) && not (eqb t y) && not (eqb t z)) e);
+            rest = turn ∙ rw (n, m, not-false (r && not (eqb t x) && not (eqb t y) && not (eqb t z)) e);
           }

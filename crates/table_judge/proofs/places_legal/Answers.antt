@@ -6,24 +6,22 @@ use native.Mathlib.Omega.{arith}
 use Rattle.table_judge.proofs.PlacesLaws.{places-start, places-free, places-wrong, places_on, places-end}
 use Rattle.table_judge.proofs.places_legal.Goals as goal
 
-pub loop-left-init : goal.loop-left-init
-loop-left-init c = places-start _ (λ i. (c.type_inv.places i).fits) c.requires
-
-pub all_free-requires : goal.all_free-requires
-all_free-requires c = (omega arith, omega arith, omega arith)
+pub loop-k-init : goal.loop-k-init
+loop-k-init c = places-start _ (λ i. (c.type_inv.places i).fits) c.requires
 
 pub returns-then-get-eq0 : goal.returns-then-get-eq0
 returns-then-get-eq0 c =
     c.all_free.ensures
-    ∙ sym (places-free c.loop-left.invariant c.loop-left-test.true _ c.get.ensures c.if-get-eq0.true)
+    ∙ sym (places-free c.loop-k.invariant (omega (arith, c.loop-k-test.true)) _ c.get.ensures c.if-get-eq0.true)
 
 pub returns-then-not-live_legal-text : goal.returns-then-not-live_legal-text
 returns-then-not-live_legal-text c =
-    sym (places-wrong c.loop-left.invariant c.loop-left-test.true _ c.get.ensures c.if-get-eq0.false _ c.get-text.ensures _ c.live_legal.ensures (ap not c.if-not-live_legal-text.true))
+    sym (places-wrong c.loop-k.invariant (omega (arith, c.loop-k-test.true)) _ c.get.ensures c.if-get-eq0.false _ c.get-text.ensures _ c.live_legal.ensures (ap not c.if-not-live_legal-text.true))
 
-pub loop-left-preserved : goal.loop-left-preserved
-loop-left-preserved c =
-    places_on c.loop-left.invariant c.loop-left-test.true _ c.get.ensures c.if-get-eq0.false _ c.get-text.ensures _ c.live_legal.ensures (ap not c.if-not-live_legal-text.false)
+pub loop-k-preserved : goal.loop-k-preserved
+loop-k-preserved c =
+    places_on c.loop-k.invariant (omega (arith, c.loop-k-test.true)) _ c.get.ensures c.if-get-eq0.false _ c.get-text.ensures _ c.live_legal.ensures (ap not c.if-not-live_legal-text.false)
+    (omega arith) (omega arith)
 
 pub returns : goal.returns
-returns c = sym (places-end c.loop-left.invariant c.loop-left-test.false)
+returns c = sym (places-end c.loop-k.invariant (omega (arith, c.loop-k-test.false)))

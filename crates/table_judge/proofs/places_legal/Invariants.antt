@@ -1,8 +1,7 @@
+use Prim.Native.Nat.{◌*◌, ◌-◌}
+use Rattle.rules.specs.Layout.{current, place_size, places_per_cell}
 use Rattle.table_judge.proofs.PlacesLaws.{PlacesLeft}
 use Rattle.table_judge.proofs.places_legal.Given as goal
 
-abbrev pub invariant-loop-left : goal.invariant-loop-left
-invariant-loop-left l = PlacesLeft l.places l.at l.left l.a l.b l.c
-
-abbrev pub decreases-loop-left : goal.decreases-loop-left
-decreases-loop-left l = l.left
+abbrev pub invariant-loop-k : goal.invariant-loop-k
+invariant-loop-k l = PlacesLeft l.places (place_size current * l.k) (places_per_cell - l.k) l.a l.b l.c

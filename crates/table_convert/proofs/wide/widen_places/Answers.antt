@@ -1,9 +1,13 @@
 -- `widen_places` leaves the widened places of a cell.
--- Four of them, one behind the other, are all the bytes lent: `places_widened`.
-use Rattle.table_convert.proofs.CellStoreLaws.{places_widened}
+-- The invariant, `PlacesLeft`: what is stored is, with the places still to come, all of them.
+use Rattle.table_convert.proofs.CellStoreLaws.{places-start, places_on, places-end}
 use Rattle.table_convert.proofs.wide.widen_places.Goals as goal
 
+pub loop-k-init : goal.loop-k-init
+loop-k-init c = places-start _ _
+
+pub loop-k-preserved : goal.loop-k-preserved
+loop-k-preserved c = places_on c.loop-k.invariant c.loop-k-test.true c.requires.1 _ c.widen_place.ensures
+
 pub returns : goal.returns
-returns c =
-    places_widened c.args.wide.now c.args.cell.now c.requires.0 c.requires.1
-    c.widen_place.ensures c.widen_place-2.ensures c.widen_place-3.ensures c.widen_place-4.ensures
+returns c = places-end c.loop-k.invariant c.loop-k-test.false c.requires.0
