@@ -14,17 +14,14 @@ fn lengths_fit(lengths: &[u64], bytes: usize) -> bool
     ensures { result ≡ lengths_fit lengths.now bytes }
 {
     let mut left = bytes as u64;
-    let mut k = 0;
-    while k < lengths.len() {
-        let length = lengths[k];
-        if LONGEST_SEGMENT < length {
+    for size in lengths {
+        if LONGEST_SEGMENT < *size {
             return false;
         }
-        if left < length {
+        if left < *size {
             return false;
         }
-        left -= length;
-        k += 1;
+        left -= *size;
     }
     left == 0
 }
@@ -62,14 +59,11 @@ fn put_segments(bytes: &[u8], lengths: &[u64], list: &mut [u8])
 {
     let mut from = 0;
     let mut at = 0;
-    let mut k = 0;
-    while k < lengths.len() {
-        let length = lengths[k] as usize;
-        let end = from + length;
+    for size in lengths {
+        let end = from + *size as usize;
         put_segment(list, at, &bytes[from..end]);
+        at += LENGTH + *size as usize;
         from = end;
-        at += LENGTH + length;
-        k += 1;
     }
 }
 
