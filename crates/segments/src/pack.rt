@@ -44,8 +44,8 @@ fn verdict(bytes: &[u8], lengths: &[u64], room: usize) -> Result<(), Refusal>
 
 // A segment behind its length, at an index of the list.
 fn put_segment(list: &mut [u8], at: usize, segment: &[u8])
-    requires segment_in_bounds { at + (length_size + length segment.now) ≤ length list.old }
-    requires segment_len_bound { length segment.now ≤ longest_segment }
+    requires holds_segment { at + (length_size + length segment.now) ≤ length list.old }
+    requires length_fits { length segment.now ≤ longest_segment }
     ensures { list.new ≡ sets list.old at (segment_bytes segment.now) }
 {
     put(list, at, segment.len() as u16);

@@ -11,8 +11,8 @@ overflow_add-end c = record { fits = omega (arith, next-within c.loop-size.invar
 pub slice_bounds-put_segment-end : goal.slice_bounds-put_segment-end
 slice_bounds-put_segment-end c = omega (arith, next-within c.loop-size.invariant c.loop-size-test.true _ refl)
 
-pub put_segment-requires-clause-segment_len_bound : goal.put_segment-requires-clause-segment_len_bound
-put_segment-requires-clause-segment_len_bound c =
+pub put_segment-requires-clause-length_fits : goal.put_segment-requires-clause-length_fits
+put_segment-requires-clause-length_fits c =
     let more = c.loop-size-test.true in
     omega (arith, own-long c.loop-size.invariant more _ refl, next-short c.loop-size.invariant more _ refl)
 
