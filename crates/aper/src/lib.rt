@@ -56,11 +56,6 @@ pub struct Extensions {
     pub rejected: bool,
 }
 
-// Criticality reject, and the first number that is no criticality.
-pub const REJECT: u8 = 0;
-
-pub const CRITICALITIES: u8 = 3;
-
 // A length is in one byte below this, and in two from there on.
 const SHORT: usize = 128;
 
