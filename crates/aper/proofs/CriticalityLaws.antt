@@ -1,12 +1,13 @@
 -- Two bits as a criticality: of the fourth value there is none, and what else it says is whether they are those of reject.
 use Rattle.std.specs.Prelude.{Bool, Some, Result, Ok, Err}
-use Rattle.std.specs.Result.{is_ok, result_ok}
+use Rattle.std.specs.Result.{is_ok, is_err, result_ok}
 use Rattle.std.proofs.lemmas.Option.{none-some, same_Some}
 use mathlib.Core.Path.{◌≡◌, refl, sym, ap, ◌∙◌}
-use mathlib.Core.Bool.{false, false≢true}
+use mathlib.Core.Bool.{true, false, false≢true}
 use Prim.Native.Nat.{ℕ, ◌<◌, ◌≤◌}
 use native.Mathlib.Omega.{arith}
-use lib.Dec.{eqb}
+use lib.Dec.{eqb, ltb}
+use borrow.Author.Tests.{lt-ltb, le-ltb}
 use denote.Enum.Bare.{sameb}
 use Rattle.aper.specs.Readers.{bits_of, CriticalityOf}
 use Rattle.aper.specs.contracts.Criticality.{the_type}
@@ -39,3 +40,16 @@ criticality-said n r read {c} e {b} test =
     let bits = some_criticality n r read e in
     let small = criticality_small c in
     (omega (arith, small, bits), test ∙ criticality-rejects c ∙ ap (λ (k : ℕ). eqb k 0) bits)
+
+-- whether two bits are a criticality
+pub criticality_test : (n : ℕ) (r : Result Criticality NoCriticality) → CriticalityOf n r → is_ok r ≡ ltb n 3
+criticality_test n (Ok c) read = let small = criticality_small c in sym (lt-ltb n 3 (omega (arith, small, read)))
+criticality_test n (Err x) read = sym (le-ltb n 3 read)
+
+pub criticality_err : (n : ℕ) (r : Result Criticality NoCriticality) → CriticalityOf n r → true ≡ is_err r → 3 ≤ n
+criticality_err n (Ok c) read e = absurd (false≢true (sym e))
+criticality_err n (Err x) read e = read
+
+pub criticality_ok : (n : ℕ) (r : Result Criticality NoCriticality) → CriticalityOf n r → false ≡ is_err r → n < 3
+criticality_ok n (Ok c) read e = let small = criticality_small c in omega (arith, small, read)
+criticality_ok n (Err x) read e = absurd (false≢true e)

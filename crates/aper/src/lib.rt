@@ -56,11 +56,6 @@ pub struct Extensions {
     pub rejected: bool,
 }
 
-// Criticality reject, and the first number that is no criticality.
-pub const REJECT: u8 = 0;
-
-pub const CRITICALITIES: u8 = 3;
-
 // A length is in one byte below this, and in two from there on.
 const SHORT: usize = 128;
 
@@ -149,9 +144,11 @@ fn extensions_at(s: &[u8], at: usize) -> Option<Extensions>
 }
 
 // Extensions where their bit is 1, and none where it is 0.
+// Stays: the bit as a number, since the format `given` (specs/Elements) and its law `given_lawful` take it as one; each caller would write
+// `flags / 16 % 2 == 1` for `flags / 16 % 2`.
 pub fn given_at(s: &[u8], at: usize, present: u8) -> Option<Extensions>
     requires at_in_bounds { at ≤ length s.now }
-    requires present_bound { present < 2 }
+    requires one_bit { present < 2 }
     ensures { GivenAt s.now at present result }
 {
     if present == 0 {

@@ -140,19 +140,19 @@ pub fn pws_segment(first: &[u8], more: &[u8], k: usize) -> PwsPart
     ensures { SegmentPromise first.now more.now k result }
 {
     match segments::read::locate(first, more, k) {
-        Part::First(length) => PwsPart {
+        Ok(Part::First(length)) => PwsPart {
             number: 0,
             buffer: 0,
             start: 0,
             length,
         },
-        Part::Listed(start, length) => PwsPart {
+        Ok(Part::Listed { start, length }) => PwsPart {
             number: 0,
             buffer: 1,
             start,
             length,
         },
-        Part::Nothing(why) => PwsPart {
+        Err(why) => PwsPart {
             number: why.number(),
             buffer: 0,
             start: 0,

@@ -7,7 +7,7 @@ ghost use Rattle.wire.specs.declared.Message.TheVariants.{CancelRequest};
 ghost use Rattle.wire_judge.specs.Readers.{WalkedOver, JudgedAs};
 ghost use Rattle.response_judge.specs.Met.{seen_of, in_turn_of, identified_by, listed_by, past_by, alone_by, Fronted};
 
-use aper::{CRITICALITIES, Element, REJECT, element_at};
+use aper::{Criticality, Element, element_at};
 use octets::get;
 use rules::Refusal;
 use wire::form::{BLANK_AT, ELEMENTS_AT, FIRST_AT, FRONT, IDENTIFIED, NUMBER_AT, TRANSACTION};
@@ -72,11 +72,9 @@ impl Met {
     fn past(self, criticality: u8) -> Option<Met>
         ensures { result ≡ past_by self criticality }
     {
-        if CRITICALITIES <= criticality {
-            return None;
-        }
+        let criticality = Criticality::try_from(criticality).ok()?;
         let mut now = self;
-        now.rejects = self.rejects | (criticality == REJECT);
+        now.rejects = self.rejects | (criticality == Criticality::Reject);
         Some(now)
     }
 }

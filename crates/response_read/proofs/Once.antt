@@ -4,7 +4,7 @@ use mathlib.Core.List.{List}
 use Prim.Native.Nat.{ℕ}
 use Rattle.octets.specs.Settled.{Settles}
 use Rattle.octets.proofs.Once.{one-outcome, both_once}
-use Rattle.wire.specs.declared.Taking.{Taking}
+use Rattle.wire.specs.MessageOutcome.{Taking}
 use Rattle.wire.proofs.TakingLaws.{taking_settled, left_settled}
 use Rattle.response_read.proofs.read_response.Reads as read_response_lem
 

@@ -1,28 +1,25 @@
 // A response taken from the wire (document 02, 6/13): the message is judged, and then the answer is written, each row out of the message's own bytes.
 #![tactic(auto)]
 
-ghost use Rattle.std.specs.Prelude.{◌≡◌, false, ◌+◌, ◌*◌, ◌≤◌, length};
-ghost use mathlib.Core.List.{flat_map};
-ghost use Rattle.std.proofs.lemmas.List.Edits.{sets};
+ghost use Rattle.std.specs.Prelude.{◌≡◌, false};
 ghost use Rattle.rules.specs.Applied.{filled_by};
-ghost use Rattle.rules.specs.Layout.{current, answer_size, row_size};
-ghost use Rattle.rules.specs.Answer.{row_bytes};
 ghost use Rattle.wire.specs.MessageOutcome.{taken_by};
 ghost use Rattle.wire_judge.specs.Account.{Lies, account_by};
 ghost use Rattle.response_judge.specs.Met.{seen_of};
-ghost use Rattle.wire_cells.specs.Listed.{JudgedList, rows_listed};
 ghost use Rattle.responses.specs.ResponseRead.{kind_answered, response_read};
 ghost use Rattle.response_read.specs.Left.{meant_by, answer_left};
 
 use answer::{Row, length_with, put_head, put_row};
-use octets::get16;
-use response_judge::{Judged, Met, judge};
+use octets::get;
+use response_judge::{Met, judge};
 use rules::Refusal;
 use rules::kind::{CANCEL_OR_KILL, WRITE_REPLACE};
 use rules::layout::{ANSWER, ROW};
 use wire::form::WRITE_REPLACE_RESPONSE;
-use wire::{Message, Taking};
-use wire_cells::{cell_at, cell_count};
+use wire::{Message, Taken};
+use wire_cells::each::{Form, put_each};
+use wire_cells::{Cell, cell_count};
+use wire_judge::Judged;
 
 // ---- the answer
 
@@ -31,44 +28,40 @@ fn kind_answered(m: Message) -> u8
 {
     match m {
         Message::WriteReplaceResponse => WRITE_REPLACE,
-        Message::CancelResponse => CANCEL_OR_KILL,
-        Message::CancelRequest => CANCEL_OR_KILL,
+        Message::CancelResponse | Message::CancelRequest => CANCEL_OR_KILL,
     }
 }
 
-// Every cell of the list, as rows behind the answer's head.
-fn put_rows(m: Message, answer: &mut [u8], cells: &[u8])
-    requires judged_list { JudgedList m cells.now }
-    requires cells_in_bounds { answer_size current + row_size current * length (rows_listed m cells.now) ≤ length answer.old }
-    ensures { answer.new ≡ sets answer.old (answer_size current) (flat_map (row_bytes current) (rows_listed m cells.now)) }
-{
-    if cells.len() == 0 {
-        return;
+// A cell as a row of the answer.
+struct Answered;
+
+impl Form for Answered {
+    ghost use Rattle.rules.specs.Layout.{current, row_size};
+    ghost use Rattle.rules.specs.Answer.{row_bytes};
+    ghost use Rattle.rules.proofs.RowCodec.{length-row_bytes};
+
+    ghost form = { row_bytes current };
+
+    ghost SIZE = { row_size current };
+
+    const SIZE: usize = ROW;
+
+    fn put(out: &mut [u8], at: usize, cell: Cell) {
+        let row = Row {
+            identity: cell.identity,
+            count: cell.count,
+            content: 0,
+        };
+        put_row(out, at, row);
     }
-    let mut left = get16(cells, 0) as usize + 1;
-    let mut at: usize = 2;
-    let mut out = ANSWER;
-    while 0 < left {
-        let cell = cell_at(m, cells, at);
-        put_row(
-            answer,
-            out,
-            Row {
-                identity: cell.identity,
-                count: cell.count,
-                content: 0,
-            },
-        );
-        out += ROW;
-        at = cell.end;
-        left -= 1;
-    }
+
+    ghost sized = { length-row_bytes current };
 }
 
 // 17, then 8, or the answer at the start of the buffer; bytes behind it stay.
 fn put_answer(m: Message, elements: &[u8], met: Met, answer: &mut [u8]) -> Result<usize, Refusal>
     requires lies { Lies m elements.now (seen_of met) }
-    requires lacks_value { met.lacks ≡ false }
+    requires every_cell_known { met.lacks ≡ false }
     ensures { filled_by result answer.new ≡ answer_left (kind_answered m) (account_by m elements.now (seen_of met)).says.cells answer.old }
 {
     if !met.ascends {
@@ -83,7 +76,7 @@ fn put_answer(m: Message, elements: &[u8], met: Met, answer: &mut [u8]) -> Resul
         return Err(Refusal::ShortBuffer);
     }
     put_head(answer, kind_answered(m), 0, 0, n as u16);
-    put_rows(m, answer, cells);
+    put_each::<Answered>(m, answer, ANSWER, cells);
     Ok(size)
 }
 
@@ -96,21 +89,20 @@ fn meant(message: &[u8]) -> Message
     if message.len() < 2 {
         return Message::CancelResponse;
     }
-    if get16(message, 0) == WRITE_REPLACE_RESPONSE {
-        return Message::WriteReplaceResponse;
+    match get::<u16>(message, 0) {
+        WRITE_REPLACE_RESPONSE => Message::WriteReplaceResponse,
+        _ => Message::CancelResponse,
     }
-    Message::CancelResponse
 }
 
-pub fn read_response(message: &[u8], answer: &mut [u8]) -> Taking
+pub fn read_response(message: &[u8], answer: &mut [u8]) -> Result<Taken, Refusal>
     ensures { taken_by result answer.new ≡ response_read message.now answer.old }
 {
     let m = meant(message);
-    match judge(m, message) {
-        Judged::Unfit(refusal) => Taking::Untaken(refusal),
-        Judged::Fine(start, met) => match put_answer(m, &message[start..], met, answer) {
-            Err(refusal) => Taking::Untaken(refusal),
-            Ok(length) => Taking::Taken(met.transaction as u16, length),
-        },
-    }
+    let Judged { start, kept } = judge(m, message)?;
+    let length = put_answer(m, &message[start..], kept, answer)?;
+    Ok(Taken {
+        transaction: kept.transaction as u16,
+        length,
+    })
 }

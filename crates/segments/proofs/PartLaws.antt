@@ -18,7 +18,7 @@ use Rattle.rules.specs.declared.Refusal.{Refusal}
 use Rattle.rules.proofs.OutcomeLaws.{number_positive}
 use Rattle.rules.proofs.VerdictLaws.{then_accepted, unless_accepted}
 use Rattle.segments.specs.Segments.{most_segments, list_bytes, segments_of, whole_list, segment_verdict, segment_of, Lies, start_in, lying, lies_at, bytes_at, lies_by, lent_from}
-use Rattle.segments.specs.declared.read.Part.TheVariants.{First, Listed, Nothing}
+use Rattle.segments.specs.declared.read.Part.TheVariants.{First, Listed}
 use Rattle.segments.proofs.ListCodec.{packed_segments}
 use Rattle.segments.proofs.PlaceLaws.{lies_within, lies-there}
 
@@ -74,14 +74,14 @@ module _ (first more : List ℕ) (bytes : Bytes more) where
   lies-bytes k = told-bytes (segment_verdict more k) k refl
 
   -- of a place in the list
-  pub listed-within : (k a n : ℕ) → lies_by (Listed a n) ≡ lies_at first more k → a + n ≤ length more
+  pub listed-within : (k a n : ℕ) → lies_by (Ok (Listed a n)) ≡ lies_at first more k → a + n ≤ length more
   unfolding lies_at in_buffer
   listed-within k a n e = subst in_buffer (sym e) (told-within (segment_verdict more k) k refl)
 
-  pub hand_listed : (k a n : ℕ) → lies_by (Listed a n) ≡ lies_at first more k → take (a + n - a) (drop a more) ≡ segment_of first more k
+  pub hand_listed : (k a n : ℕ) → lies_by (Ok (Listed a n)) ≡ lies_at first more k → take (a + n - a) (drop a more) ≡ segment_of first more k
   hand_listed k a n e = ap (λ (m : ℕ). take m (drop a more)) (add-sub_cancel_left a n) ∙ ap (bytes_at first more) e ∙ lies-bytes k
 
-  pub hand_nothing : (k : ℕ) (x : Refusal) → lies_by (Nothing x) ≡ lies_at first more k → [] ≡ segment_of first more k
+  pub hand_nothing : (k : ℕ) (x : Refusal) → lies_by (Err x) ≡ lies_at first more k → [] ≡ segment_of first more k
   hand_nothing k x e = ap (bytes_at first more) e ∙ lies-bytes k
 
 -- what was answered says whether the list and k were accepted
@@ -96,7 +96,7 @@ module _ (first more : List ℕ) where
   lies-accepted k n = accepted_by k (segment_verdict more k) refl n
 
   -- the first buffer, whole, for k = 0
-  pub hand_first : (k n : ℕ) → lies_by (First n) ≡ lies_at first more k → first ≡ segment_of first more k
+  pub hand_first : (k n : ℕ) → lies_by (Ok (First n)) ≡ lies_at first more k → first ≡ segment_of first more k
   unfolding segment_of lies_at lying
   hand_first zero n e = rw (lies-accepted zero (sym (ap (λ (y : Lies). y.number) e)))
   hand_first (suc j) n e =
@@ -110,6 +110,6 @@ module _ (p q : ℕ × ℕ) where
   unfolding lent_from
   lent-first m n = ap (λ (o : ℕ). (p.0, o)) (sym (zero-add p.1))
 
-  pub lent-listed : (a n : ℕ) → (q.0, a + q.1) ≡ lent_from p q (lies_by (Listed a n))
+  pub lent-listed : (a n : ℕ) → (q.0, a + q.1) ≡ lent_from p q (lies_by (Ok (Listed a n)))
   unfolding lent_from
   lent-listed a n = refl

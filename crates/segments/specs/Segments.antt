@@ -1,13 +1,14 @@
 -- Document 02, 1/13: a text in segments. The first SIB message lies in a buffer of its own, whole; the list has the additional ones, each behind its length, back to back.
-use Rattle.std.specs.Prelude.{Bool, cond, ◌&&◌, ℕ, zero, suc, ◌+◌, eqb, leb, length, get_or, take, drop, Ok, Err}
+use Rattle.std.specs.Prelude.{Bool, cond, ◌&&◌, ℕ, zero, suc, ◌+◌, eqb, leb, length, get_or, take, drop, Result, Ok, Err}
 use mathlib.Core.List.{List, [], ◌∷◌, ◌++◌, flat_map}
 use Rattle.octets.specs.Numbers.{be, to_be}
 use Rattle.rules.specs.Lists.{every}
 use Rattle.rules.specs.Refusals.{number_of, refuse_unless, ◌then◌, Verdict}
 use Rattle.rules.specs.Applied.{Filled, fill}
+use Rattle.rules.specs.declared.Refusal.{Refusal}
 use Rattle.rules.specs.declared.Refusal.TheVariants.{ListDamaged, TooManySegments, NoSuchSegment, ShortBuffer}
 use Rattle.segments.specs.declared.read.Part.{Part}
-use Rattle.segments.specs.declared.read.Part.TheVariants.{First, Listed, Nothing}
+use Rattle.segments.specs.declared.read.Part.TheVariants.{First, Listed}
 
 -- a length stands in two bytes
 abbrev pub length_size : ℕ
@@ -96,11 +97,11 @@ lies_at first more k = lying (segment_verdict more k) first more k
 abbrev pub bytes_at : List ℕ → List ℕ → Lies → List ℕ
 bytes_at first more p = take p.length (drop p.start (cond (eqb p.buffer 0) first more))
 
--- what a part says: document 02's number and values for each of its cases
-abbrev pub lies_by : Part → Lies
-lies_by (First n) = record { number = 0; buffer = 0; start = 0; length = n }
-lies_by (Listed start n) = record { number = 0; buffer = 1; start = start; length = n }
-lies_by (Nothing x) = record { number = number_of x; buffer = 0; start = 0; length = 0 }
+-- what a part, or the refusal in its place, says: document 02's number and values for each of the cases
+abbrev pub lies_by : Result Part Refusal → Lies
+lies_by (Ok (First n)) = record { number = 0; buffer = 0; start = 0; length = n }
+lies_by (Ok (Listed start n)) = record { number = 0; buffer = 1; start = start; length = n }
+lies_by (Err x) = record { number = number_of x; buffer = 0; start = 0; length = 0 }
 
 -- "the caller's own bytes": where in memory a part begins, as a block and an offset, from where the two buffers do
 unfoldable pub lent_from : ℕ × ℕ → ℕ × ℕ → Lies → ℕ × ℕ

@@ -7,14 +7,13 @@ use crate::{LENGTH, MOST_SEGMENTS};
 use octets::get;
 use rules::Refusal;
 
-// Where a segment lies, or why there is none.
+// Where a segment lies.
 #[derive(Clone, Copy)]
 pub enum Part {
     // The first buffer, whole: its length.
     First(usize),
-    // In the list: where it starts, and its length.
-    Listed(usize, usize),
-    Nothing(Refusal),
+    // In the list.
+    Listed { start: usize, length: usize },
 }
 
 // What one pass over a list finds: how many segments are whole, where the last of them ends, and where the k-th lies if it is among them.
@@ -55,23 +54,26 @@ fn scan(more: &[u8], k: usize) -> Pass
 }
 
 // Where segment k lies; the list is judged whole for every k.
-pub fn locate(first: &[u8], more: &[u8], k: usize) -> Part
+pub fn locate(first: &[u8], more: &[u8], k: usize) -> Result<Part, Refusal>
     ensures { lies_by result ≡ lies_at first.now more.now k }
 {
     let pass = scan(more, k);
     if pass.end != more.len() {
-        return Part::Nothing(Refusal::ListDamaged);
+        return Err(Refusal::ListDamaged);
     }
     if MOST_SEGMENTS < pass.count {
-        return Part::Nothing(Refusal::TooManySegments);
+        return Err(Refusal::TooManySegments);
     }
     if pass.count < k {
-        return Part::Nothing(Refusal::NoSuchSegment);
+        return Err(Refusal::NoSuchSegment);
     }
     if k == 0 {
-        return Part::First(first.len());
+        return Ok(Part::First(first.len()));
     }
-    Part::Listed(pass.start, pass.length)
+    Ok(Part::Listed {
+        start: pass.start,
+        length: pass.length,
+    })
 }
 
 // The caller's own bytes: the first buffer for k = 0, the k-th segment of the list otherwise, an empty part on a refusal.
@@ -79,9 +81,9 @@ pub fn segment<'a>(first: &'a [u8], more: &'a [u8], k: usize) -> &'a [u8]
     ensures { (result.now ≡ segment_of first.now more.now k) × (result.ref_ptr ≡ lent_from first.entry.ref_ptr more.entry.ref_ptr (lies_at first.now more.now k)) }
 {
     match locate(first, more, k) {
-        Part::First(_) => first,
-        Part::Listed(start, length) => &more[start..start + length],
-        Part::Nothing(_) => &first[..0],
+        Ok(Part::First(_)) => first,
+        Ok(Part::Listed { start, length }) => &more[start..start + length],
+        Err(_) => &first[..0],
     }
 }
 
@@ -90,8 +92,7 @@ pub fn number(first: &[u8], more: &[u8], k: usize) -> u32
     ensures { result ≡ (lies_at first.now more.now k).number }
 {
     match locate(first, more, k) {
-        Part::First(_) => 0,
-        Part::Listed(_, _) => 0,
-        Part::Nothing(refusal) => refusal.number(),
+        Ok(_) => 0,
+        Err(refusal) => refusal.number(),
     }
 }

@@ -1,4 +1,3 @@
-pub mod RequestLaws
 pub mod RecordLaws
 pub mod StoredLaws
 pub mod TakenLaws

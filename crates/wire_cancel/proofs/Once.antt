@@ -4,7 +4,7 @@ use mathlib.Core.List.{List}
 use Prim.Native.Nat.{ℕ}
 use Rattle.octets.specs.Settled.{Settles}
 use Rattle.octets.proofs.Once.{one-outcome, both_once}
-use Rattle.wire.specs.declared.Taking.{Taking}
+use Rattle.wire.specs.MessageOutcome.{Taking}
 use Rattle.wire.proofs.TakingLaws.{taking_settled, left_settled}
 use Rattle.wire_cancel.proofs.read_cancel.Reads as read_cancel_lem
 

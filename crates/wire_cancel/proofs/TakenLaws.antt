@@ -12,7 +12,6 @@ use Rattle.wire.specs.MessageRefusals.{message_tests, message_verdict}
 use Rattle.wire.specs.MessageSaid.{Said, said_in}
 use Rattle.wire.specs.MessageOutcome.{taken_by}
 use Rattle.wire.specs.declared.Message.TheVariants.{CancelRequest}
-use Rattle.wire.specs.declared.Taking.TheVariants.{Untaken}
 use Rattle.wire.specs.CancelRead.{later_tests, cancel_verdict, record_of, cancel_read}
 use Rattle.wire.proofs.TakingLaws.{taking, taking_outcome}
 use Rattle.wire_judge.specs.Account.{account_by}
@@ -29,7 +28,7 @@ verdict_chain b room = first_append (message_tests CancelRequest b) (later_tests
 
 -- ---- a message
 
-pub not_taken : (b before : List ℕ) (x : Refusal) → message_verdict CancelRequest b ≡ Err x → taken_by (Untaken x) before ≡ cancel_read b before
+pub not_taken : (b before : List ℕ) (x : Refusal) → message_verdict CancelRequest b ≡ Err x → taken_by (Err x) before ≡ cancel_read b before
 unfolding cancel_read fill
 not_taken b before x e = rw (verdict_chain b (length before), e)
 

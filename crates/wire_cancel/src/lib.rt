@@ -2,49 +2,44 @@
 // message's own bytes.
 #![tactic(auto)]
 
-ghost use Rattle.std.specs.Prelude.{◌≡◌, false, ◌+◌, ◌*◌, ◌≤◌, length};
-ghost use mathlib.Core.List.{flat_map};
-ghost use Rattle.std.proofs.lemmas.List.Edits.{sets};
-ghost use Rattle.octets.specs.Numbers.{to_be};
+ghost use Rattle.std.specs.Prelude.{◌≡◌, false};
 ghost use Rattle.rules.specs.Applied.{filled_by};
-ghost use Rattle.rules.specs.Layout.{current, item_size, record_size};
 ghost use Rattle.wire.specs.MessageOutcome.{taken_by};
 ghost use Rattle.wire.specs.CancelRead.{cancel_read, flags_of};
 ghost use Rattle.wire.specs.declared.Message.TheVariants.{CancelRequest};
 ghost use Rattle.wire_judge.specs.Account.{Lies, account_by};
-ghost use Rattle.wire_cells.specs.Listed.{JudgedList};
-ghost use Rattle.wire_cancel.specs.Taken.{cells_listed, area_by, request_by, recorded};
+ghost use Rattle.wire_cancel.specs.Taken.{area_by, request_by, recorded};
 
-use octets::{get16, put64};
+use octets::put;
 use record_write::put_fields;
 use rules::kind::{CANCEL_ALL, CANCEL_OR_KILL, CELLS, NO_AREA, NOTIFIED};
 use rules::layout::{ITEM, RECORD};
 use rules::{Broadcasts, Refusal, Request, Seconds};
-use wire::{Message, Taking};
-use wire_cells::{cell_at, cell_count};
+use wire::{Message, Taken};
+use wire_cells::each::{Form, put_each};
+use wire_cells::{Cell, cell_count};
 use wire_judge::{Judged, Seen, judge};
 
 // ---- the record
 
-// Every cell of the list, as items behind the record's fields.
-fn put_cells(buffer: &mut [u8], cells: &[u8])
-    requires judged_list { JudgedList CancelRequest cells.now }
-    requires cells_in_bounds { record_size + item_size current * length (cells_listed cells.now) ≤ length buffer.old }
-    ensures { buffer.new ≡ sets buffer.old record_size (flat_map (to_be (item_size current)) (cells_listed cells.now)) }
-{
-    if cells.len() == 0 {
-        return;
+// A cell as an item of the record.
+struct Item;
+
+impl Form for Item {
+    ghost use Rattle.rules.specs.Layout.{current, item_size};
+    ghost use Rattle.wire_cancel.specs.Taken.{item_of, item-sized};
+
+    ghost form = { item_of };
+
+    ghost SIZE = { item_size current };
+
+    const SIZE: usize = ITEM;
+
+    fn put(out: &mut [u8], at: usize, cell: Cell) {
+        put(out, at, cell.identity.0);
     }
-    let mut left = get16(cells, 0) as usize + 1;
-    let mut at: usize = 2;
-    let mut out = RECORD;
-    while 0 < left {
-        let cell = cell_at(Message::CancelRequest, cells, at);
-        put64(buffer, out, cell.identity.0);
-        out += ITEM;
-        at = cell.end;
-        left -= 1;
-    }
+
+    ghost sized = { item-sized };
 }
 
 fn flags_of(all: bool, noted: bool) -> u8
@@ -56,13 +51,14 @@ fn flags_of(all: bool, noted: bool) -> u8
 fn area_of(cells: usize) -> u8
     ensures { result ≡ area_by cells }
 {
-    if cells == 0 {
-        return NO_AREA;
+    match cells {
+        0 => NO_AREA,
+        _ => CELLS,
     }
-    CELLS
 }
 
 // The request that a message with so many cells makes.
+#[tactic(auto, unfolding(crate::specs::Taken::request_by))]
 fn request_of(seen: Seen, cells: usize) -> Request
     ensures { result ≡ request_by seen cells }
 {
@@ -82,7 +78,7 @@ fn request_of(seen: Seen, cells: usize) -> Request
 // 7, then 8, or the record at the start of the buffer; bytes behind it stay.
 fn put_record(elements: &[u8], seen: Seen, buffer: &mut [u8]) -> Result<usize, Refusal>
     requires lies { Lies CancelRequest elements.now seen }
-    requires lacks_value { seen.lacks ≡ false }
+    requires every_cell_known { seen.lacks ≡ false }
     ensures { filled_by result buffer.new ≡ recorded (account_by CancelRequest elements.now seen).says buffer.old }
 {
     if !(seen.all | seen.noted) {
@@ -96,20 +92,19 @@ fn put_record(elements: &[u8], seen: Seen, buffer: &mut [u8]) -> Result<usize, R
         return Err(Refusal::ShortBuffer);
     }
     put_fields(buffer, request_of(seen, n), n as u16);
-    put_cells(buffer, cells);
+    put_each::<Item>(Message::CancelRequest, buffer, RECORD, cells);
     Ok(RECORD + ITEM * n)
 }
 
 // ---- all of it
 
-pub fn read_cancel(message: &[u8], buffer: &mut [u8]) -> Taking
+pub fn read_cancel(message: &[u8], buffer: &mut [u8]) -> Result<Taken, Refusal>
     ensures { taken_by result buffer.new ≡ cancel_read message.now buffer.old }
 {
-    match judge(message) {
-        Judged::Unfit(refusal) => Taking::Untaken(refusal),
-        Judged::Fine(start, seen) => match put_record(&message[start..], seen, buffer) {
-            Err(refusal) => Taking::Untaken(refusal),
-            Ok(length) => Taking::Taken(seen.transaction, length),
-        },
-    }
+    let Judged { start, kept } = judge(message)?;
+    let length = put_record(&message[start..], kept, buffer)?;
+    Ok(Taken {
+        transaction: kept.transaction,
+        length,
+    })
 }

@@ -1,6 +1,8 @@
 // The list of cells of a message that was judged: how many there are, and each of them, out of the message's own bytes.
 #![tactic(auto)]
 
+pub mod each;
+
 ghost use Rattle.std.specs.Prelude.{◌≡◌, [], length};
 ghost use Rattle.formats.specs.Format.{found};
 ghost use Rattle.formats.specs.Summary.{summed};

@@ -2,7 +2,7 @@
 ghost use Rattle.std.specs.Prelude.{◌≡◌, Err, ◌≤◌, length};
 ghost use Rattle.wire_judge.specs.Readers.{Extended, NotOwn, FramedAs};
 
-use aper::{CRITICALITIES, element_at};
+use aper::{Criticality, element_at};
 use octets::get;
 use rules::Refusal;
 use wire::Message;
@@ -19,7 +19,7 @@ fn extension_frame(m: Message, s: &[u8]) -> Refusal
     match element_at(s, 1) {
         None => Refusal::BadEncoding,
         Some(element) => {
-            if CRITICALITIES <= element.criticality {
+            if Criticality::try_from(element.criticality).is_err() {
                 return Refusal::BadEncoding;
             }
             if element.end != s.len() {
@@ -48,7 +48,7 @@ fn other_frame(m: Message, s: &[u8]) -> Refusal
     match element_at(s, 0) {
         None => Refusal::BadEncoding,
         Some(element) => {
-            if CRITICALITIES <= element.criticality {
+            if Criticality::try_from(element.criticality).is_err() {
                 return Refusal::BadEncoding;
             }
             if element.end != s.len() {
@@ -67,7 +67,7 @@ pub fn frame(m: Message, s: &[u8]) -> Result<usize, Refusal>
         None => Err(other_frame(m, s)),
         Some(element) => {
             if (element.id == m.frame_id())
-                & (element.criticality < CRITICALITIES)
+                & Criticality::try_from(element.criticality).is_ok()
                 & (element.end == s.len())
             {
                 return Ok(element.start);

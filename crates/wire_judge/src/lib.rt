@@ -14,7 +14,7 @@ ghost use Rattle.wire_judge.specs.Account.{Lies};
 ghost use Rattle.wire_judge.specs.Readers.{nothing_seen, in_turn, past_of, turn_of, Turned, WalkedOver, is_complete, JudgedAs};
 
 use crate::framing::frame;
-use aper::{CRITICALITIES, Element, REJECT, element_at};
+use aper::{Criticality, Element, element_at};
 use octets::get;
 use rules::Refusal;
 use wire::form::{ELEMENTS_AT, FIRST_AT};
@@ -101,11 +101,9 @@ impl Seen {
     fn past(self, criticality: u8) -> Option<Seen>
         ensures { result ≡ past_of self criticality }
     {
-        if CRITICALITIES <= criticality {
-            return None;
-        }
+        let criticality = Criticality::try_from(criticality).ok()?;
         let mut now = self;
-        now.rejects = self.rejects | (criticality == REJECT);
+        now.rejects = self.rejects | (criticality == Criticality::Reject);
         Some(now)
     }
 

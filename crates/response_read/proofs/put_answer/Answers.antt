@@ -5,7 +5,6 @@ use mathlib.Core.Bool.{true}
 use mathlib.Core.List.{List}
 use native.Mathlib.Omega.{arith}
 use lib.ListN.{length}
-use lib.Seq.{length-sets}
 use borrow.Author.Tests.{not-true, not-false}
 use Rattle.rules.specs.Lists.{ascending}
 use Rattle.rules.specs.Reply.{Row, identities}
@@ -22,29 +21,29 @@ rows c = Cells c.args.m c.args.elements.now (seen_of c.args.met)
 -- cells that ascend
 order : (c : After-cell_count-n) → ascending (identities (rows c)) ≡ true
 order c =
-    cells_ascend c.args.m c.args.elements.now (seen_of c.args.met) c.requires.lies c.requires.lacks_value ∙ not-false _ c.if-not-met.false
+    cells_ascend c.args.m c.args.elements.now (seen_of c.args.met) c.requires.lies c.requires.every_cell_known ∙ not-false _ c.if-not-met.false
 
 many : (c : After-cell_count-n) → c.cell_count-n.result ≡ length (rows c)
 many c = let a = c.args in rw (← rows-said a.m a.elements.now (seen_of a.met)) c.cell_count-n.ensures.counts
 
 pub returns-then-not-met : goal.returns-then-not-met
 returns-then-not-met c =
-    unordered_put _ _ _ (cells_ascend c.args.m c.args.elements.now (seen_of c.args.met) c.requires.lies c.requires.lacks_value ∙ not-true _ c.if-not-met.true)
+    unordered_put _ _ _ (cells_ascend c.args.m c.args.elements.now (seen_of c.args.met) c.requires.lies c.requires.every_cell_known ∙ not-true _ c.if-not-met.true)
 
 pub cell_count-n-requires : goal.cell_count-n-requires
 cell_count-n-requires c =
-    part-judged c.args.m c.args.elements.now (seen_of c.args.met) c.requires.lies c.requires.lacks_value
+    part-judged c.args.m c.args.elements.now (seen_of c.args.met) c.requires.lies c.requires.every_cell_known
 
 pub returns-then-answer-size : goal.returns-then-answer-size
 returns-then-answer-size c =
     short_put _ (rows (goal.at.returns-then-answer-size c).After-cell_count-n) _ (order (goal.at.returns-then-answer-size c).After-cell_count-n) (omega (arith, many (goal.at.returns-then-answer-size c).After-cell_count-n, c.length_with-size.ensures, c.if-answer-size.true))
 
-pub put_rows-requires : goal.put_rows-requires
-put_rows-requires c = record { judged_list = part-judged c.args.m c.args.elements.now (seen_of c.args.met) c.requires.lies c.requires.lacks_value; cells_in_bounds = rw (c.put_head.ensures, length-sets, ← c.cell_count-n.ensures.counts) (omega (arith, c.length_with-size.ensures, c.if-answer-size.false)) }
+pub put_each-requires-clause-judged_list : goal.put_each-requires-clause-judged_list
+put_each-requires-clause-judged_list c = part-judged c.args.m c.args.elements.now (seen_of c.args.met) c.requires.lies c.requires.every_cell_known
 
 pub returns : goal.returns
 returns c =
     let a = c.args in
     answer_put (kind_answered a.m) (rows (goal.at.returns c).After-cell_count-n) a.answer.now (order (goal.at.returns c).After-cell_count-n) (omega (arith, many (goal.at.returns c).After-cell_count-n, c.length_with-size.ensures, c.if-answer-size.false))
     c.kind_answered.ensures (many (goal.at.returns c).After-cell_count-n) c.length_with-size.ensures c.put_head.ensures
-    (rw (← rows-said a.m a.elements.now (seen_of a.met)) c.put_rows.ensures)
+    (rw (← rows-said a.m a.elements.now (seen_of a.met)) c.put_each.ensures)

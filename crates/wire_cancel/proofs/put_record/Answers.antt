@@ -3,13 +3,13 @@
 use mathlib.Core.Path.{◌≡◌, sym, ap, ◌∙◌}
 use mathlib.Core.Bool.{true}
 use lib.ListN.{length, length-map}
-use lib.Seq.{length-sets}
 use Rattle.rules.specs.Refusals.{cancels_some}
 use Rattle.wire.specs.CancelRead.{named, cancel_request}
 use Rattle.wire.specs.declared.Message.TheVariants.{CancelRequest}
 use Rattle.wire_cells.specs.Listed.{rows_listed}
 use Rattle.wire_cancel.specs.Taken.{cells_listed}
 use Rattle.wire_cells.proofs.WholeListLaws.{part, part-judged}
+use Rattle.wire_cancel.proofs.StoredLaws.{items-stored}
 use Rattle.wire_cancel.proofs.RecordLaws.{Says, cells-said, some-said, request-said, none_put, short_put, record_put}
 use Rattle.wire_cancel.proofs.put_record.Goals.{After-cell_count-n}
 use Rattle.wire_cancel.proofs.put_record.Goals as goal
@@ -32,20 +32,19 @@ returns-then-not-seen c =
 
 pub cell_count-n-requires : goal.cell_count-n-requires
 cell_count-n-requires c =
-    part-judged CancelRequest c.args.elements.now c.args.seen c.requires.lies c.requires.lacks_value
+    part-judged CancelRequest c.args.elements.now c.args.seen c.requires.lies c.requires.every_cell_known
 
 pub returns-then-buffer-n : goal.returns-then-buffer-n
 returns-then-buffer-n c =
     let a = c.args in
     short_put (Says a.elements.now a.seen) a.buffer.now (some (goal.at.returns-then-buffer-n c).After-cell_count-n) (rw (← many (goal.at.returns-then-buffer-n c).After-cell_count-n) c.if-buffer-n.true)
 
-pub put_cells-requires : goal.put_cells-requires
-put_cells-requires c =
-    record { judged_list = part-judged CancelRequest c.args.elements.now c.args.seen c.requires.lies c.requires.lacks_value; cells_in_bounds = rw (c.put_fields.ensures, length-sets, ← listed (goal.at.put_cells-requires c).After-cell_count-n) c.if-buffer-n.false }
+pub put_each-requires-clause-judged_list : goal.put_each-requires-clause-judged_list
+put_each-requires-clause-judged_list c = part-judged CancelRequest c.args.elements.now c.args.seen c.requires.lies c.requires.every_cell_known
 
 pub returns : goal.returns
 returns c =
     let a = c.args in
     let q = c.request_of.ensures ∙ request-said a.elements.now a.seen (listed (goal.at.returns c).After-cell_count-n) in
     record_put (Says a.elements.now a.seen) a.buffer.now (some (goal.at.returns c).After-cell_count-n) (rw (← many (goal.at.returns c).After-cell_count-n) c.if-buffer-n.false) (many (goal.at.returns c).After-cell_count-n) q c.put_fields.ensures
-    (rw (← cells-said a.elements.now a.seen) c.put_cells.ensures)
+    (rw (← cells-said a.elements.now a.seen, ← items-stored (rows_listed CancelRequest (part CancelRequest a.elements.now a.seen))) c.put_each.ensures)
