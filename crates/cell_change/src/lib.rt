@@ -1,11 +1,11 @@
 // Changes to a cell's places, in place: no byte is written that stays as it is, but for the places that move. And the bytes of a place.
 #![tactic(auto)]
 
-ghost use Rattle.std.specs.Prelude.{◌≡◌, [], ◌∷◌, ◌++◌, ◌+◌, ◌≤◌, ◌<◌, length};
-ghost use Rattle.rules.specs.Layout.{current, place_size, places_per_cell, cell_size};
-ghost use Rattle.rules.specs.Table.{place_of, place_bytes, free_bytes};
+ghost use Rattle.std.specs.Prelude.{◌≡◌, [], ◌∷◌, ◌++◌, length};
+ghost use Rattle.rules.specs.Layout.{current, cell_size};
+ghost use Rattle.rules.specs.Table.{place_of, place_bytes};
 ghost use Rattle.rules.specs.InCell.{with_counts};
-ghost use Rattle.cell_read.specs.Places.{live_places, with_places, with_place, place_from, place_at, LiveAt, FreeAt, OnePlace, without};
+ghost use Rattle.cell_read.specs.Places.{live_places, with_places, with_place, place_at, LiveAt, FreeAt, OnePlace, without};
 
 use octets::put;
 use rules::layout::{
