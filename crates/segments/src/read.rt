@@ -21,8 +21,7 @@ pub enum Part {
 struct Pass {
     count: usize,
     end: usize,
-    start: usize,
-    length: usize,
+    met: Option<Part>,
 }
 
 fn scan(more: &[u8], k: usize) -> Pass
@@ -30,8 +29,7 @@ fn scan(more: &[u8], k: usize) -> Pass
 {
     let mut count: usize = 0;
     let mut end: usize = 0;
-    let mut start: usize = 0;
-    let mut length: usize = 0;
+    let mut met = None;
     'segments: while LENGTH <= more.len() - end {
         let from = end + LENGTH;
         let size = get::<u16>(more, end) as usize;
@@ -41,16 +39,13 @@ fn scan(more: &[u8], k: usize) -> Pass
         end = from + size;
         count += 1;
         if count == k {
-            start = from;
-            length = size;
+            met = Some(Part::Listed {
+                start: from,
+                length: size,
+            });
         }
     }
-    Pass {
-        count,
-        end,
-        start,
-        length,
-    }
+    Pass { count, end, met }
 }
 
 // Where segment k lies; the list is judged whole for every k.
@@ -64,16 +59,13 @@ pub fn locate(first: &[u8], more: &[u8], k: usize) -> Result<Part, Refusal>
     if MOST_SEGMENTS < pass.count {
         return Err(Refusal::TooManySegments);
     }
-    if pass.count < k {
-        return Err(Refusal::NoSuchSegment);
-    }
     if k == 0 {
         return Ok(Part::First(first.len()));
     }
-    Ok(Part::Listed {
-        start: pass.start,
-        length: pass.length,
-    })
+    match pass.met {
+        Some(part) => Ok(part),
+        None => Err(Refusal::NoSuchSegment),
+    }
 }
 
 // The caller's own bytes: the first buffer for k = 0, the k-th segment of the list otherwise, an empty part on a refusal.
