@@ -1,7 +1,6 @@
 -- One pass over a list: between two segments, those that were passed are the first of the list's, and the bytes still to come hold the rest.
 -- A turn passes the first segment of what is still to come; where that has no whole one, all were passed.
-use Rattle.std.specs.Prelude.{Option, Some, None}
-use mathlib.Core.Path.{◌≡◌, refl, sym, ap, ap₂, ◌∙◌}
+use mathlib.Core.Path.{◌≡◌, refl, sym, ap, ◌∙◌}
 use mathlib.Core.List.{List, [], ◌∷◌, flat_map}
 use Prim.Native.Nat.{ℕ, suc, ◌+◌, ◌-◌, ◌<◌, ◌≤◌}
 use native.Mathlib.Omega.{arith}
@@ -12,21 +11,19 @@ use Rattle.octets.specs.Numbers.{be}
 use Rattle.octets.proofs.RunsLaws.{gets_eq}
 use Rattle.segments.specs.Segments.{length_size, first_length, first_end, first_of, list_bytes, segments_of, start_in}
 use Rattle.segments.specs.Within.{Scanned}
-use Rattle.segments.specs.declared.read.Part.{Part}
-use Rattle.segments.specs.declared.read.Part.TheVariants.{Listed}
 use Rattle.segments.specs.declared.read.Pass.{Pass}
 use Rattle.segments.proofs.ListLaws.{segments_more, segments_none, length-list-more}
 
-pub record Scanning (l : List ℕ) (k count end : ℕ) (found : Option Part) : Type 0 where
+pub record Scanning (l : List ℕ) (k count end start size : ℕ) : Type 0 where
   pub within : end ≤ length l
   pub few : count ≤ end
   pub among : count ≤ length (segments_of l)
   pub rest : drop count (segments_of l) ≡ segments_of (drop end l)
   pub behind : length (list_bytes (take count (segments_of l))) ≡ end
-  pub met : 0 < k → k ≤ count → found ≡ Some (Listed (start_in (segments_of l) (k - 1)) (length (get_or (segments_of l) (k - 1) [])))
-  pub unmet : count < k → found ≡ None
+  pub started : 0 < k → k ≤ count → start ≡ start_in (segments_of l) (k - 1)
+  pub sized : 0 < k → k ≤ count → size ≡ length (get_or (segments_of l) (k - 1) [])
 
-pub scan-starts : (l : List ℕ) (k : ℕ) → Scanning l k 0 0 None
+pub scan-starts : (l : List ℕ) (k : ℕ) → Scanning l k 0 0 0 0
 unfolding list_bytes flat_map
 scan-starts l k =
     record {
@@ -35,8 +32,8 @@ scan-starts l k =
       among = omega arith;
       rest = refl;
       behind = refl;
-      met = λ p q. absurd (omega arith);
-      unmet = λ p. refl;
+      started = λ p q. absurd (omega arith);
+      sized = λ p q. absurd (omega arith);
     }
 
 -- a list from an index on that begins so: the element, and the list behind it
@@ -64,7 +61,7 @@ said-there : (l : List ℕ) (end n : ℕ) → n ≡ be (gets l end length_size) 
 unfolding first_length
 said-there l end n said long = ap be (sym (gets_eq length_size l end long)) ∙ sym said
 
-module _ {l : List ℕ} {k count end : ℕ} {found : Option Part} (g : Scanning l k count end found) (n : ℕ) (said : n ≡ be (gets l end length_size))
+module _ {l : List ℕ} {k count end start size : ℕ} (g : Scanning l k count end start size) (n : ℕ) (said : n ≡ be (gets l end length_size))
     (long : length_size ≤ length l - end) (whole : n ≤ length l - (end + length_size)) where
   says : first_length (drop end l) ≡ n
   says = said-there l end n said (omega (arith, g.within))
@@ -90,7 +87,7 @@ module _ {l : List ℕ} {k count end : ℕ} {found : Option Part} (g : Scanning 
       ap (λ (m : ℕ). length (list_bytes (take m (segments_of l)))) one ∙ ap (λ (ss : List (List ℕ)). length (list_bytes ss)) (take-suc (segments_of l) count [] turn.more)
       ∙ length-list-more (take count (segments_of l)) (get_or (segments_of l) count []) ∙ rw (g.behind, first-long) (omega arith)
 
-  pub scan-passes : (count + 1 ≡ k → ⊥) → Scanning l k (count + 1) (end + length_size + n) found
+  pub scan-passes : (count + 1 ≡ k → ⊥) → Scanning l k (count + 1) (end + length_size + n) start size
   scan-passes other =
       record {
         within = omega (arith, g.within);
@@ -98,8 +95,8 @@ module _ {l : List ℕ} {k count end : ℕ} {found : Option Part} (g : Scanning 
         among = omega (arith, turn.more);
         rest = turn.later;
         behind = further;
-        met = λ p q. g.met p (sooner other q);
-        unmet = λ p. g.unmet (omega arith);
+        started = λ p q. g.started p (sooner other q);
+        sized = λ p q. g.sized p (sooner other q);
       }
     where
       sooner : (count + 1 ≡ k → ⊥) → k ≤ count + 1 → k ≤ count
@@ -112,7 +109,7 @@ module _ {l : List ℕ} {k count end : ℕ} {found : Option Part} (g : Scanning 
   unfolding start_in
   found-start here = ap (λ (m : ℕ). m + length_size) (sym g.behind) ∙ ap (λ (m : ℕ). length (list_bytes (take m (segments_of l))) + length_size) (last here)
 
-  pub scan_finds : count + 1 ≡ k → Scanning l k (count + 1) (end + length_size + n) (Some (Listed (end + length_size) n))
+  pub scan_finds : count + 1 ≡ k → Scanning l k (count + 1) (end + length_size + n) (end + length_size) n
   scan_finds here =
       record {
         within = omega (arith, g.within);
@@ -120,27 +117,27 @@ module _ {l : List ℕ} {k count end : ℕ} {found : Option Part} (g : Scanning 
         among = omega (arith, turn.more);
         rest = turn.later;
         behind = further;
-        met = λ p q. ap₂ (λ (a m : ℕ). Some (Listed a m)) (found-start here) (sym first-long ∙ ap (λ (m : ℕ). length (get_or (segments_of l) m [])) (last here));
-        unmet = λ p. absurd (omega arith);
+        started = λ p q. found-start here;
+        sized = λ p q. sym first-long ∙ ap (λ (m : ℕ). length (get_or (segments_of l) m [])) (last here);
       }
 
 -- nothing whole is left: the segments that were passed are all of them
-pub scan-ends : {l : List ℕ} {k : ℕ} (r : Pass) → Scanning l k r.count r.end r.met → segments_of (drop r.end l) ≡ [] → Scanned l k r
+pub scan-ends : {l : List ℕ} {k : ℕ} (r : Pass) → Scanning l k r.count r.end r.start r.length → segments_of (drop r.end l) ≡ [] → Scanned l k r
 scan-ends {l} {k} r g none =
     let many : length (segments_of l) - r.count ≡ 0 = sym (length-drop r.count (segments_of l)) ∙ ap length (g.rest ∙ none) in
     let all : r.count ≡ length (segments_of l) = omega (arith, g.among) in
     record {
       counted = all;
       ended = sym g.behind ∙ ap (λ (ss : List (List ℕ)). length (list_bytes ss)) (take_all r.count (segments_of l) (omega arith));
-      met = g.met;
-      unmet = g.unmet;
+      started = g.started;
+      sized = g.sized;
     }
 
 -- a part of a length is left, or a part of a segment
-pub cut-length : {l : List ℕ} {k count end : ℕ} {found : Option Part} → Scanning l k count end found → length l - end < length_size → segments_of (drop end l) ≡ []
+pub cut-length : {l : List ℕ} {k count end start size : ℕ} → Scanning l k count end start size → length l - end < length_size → segments_of (drop end l) ≡ []
 cut-length {l} {end = end} g h = segments_none (drop end l) (rw (length-drop end l) (omega arith))
 
-pub cut-segment : {l : List ℕ} {k count end : ℕ} {found : Option Part} → Scanning l k count end found → (n : ℕ) → n ≡ be (gets l end length_size) → length_size ≤ length l - end
+pub cut-segment : {l : List ℕ} {k count end start size : ℕ} → Scanning l k count end start size → (n : ℕ) → n ≡ be (gets l end length_size) → length_size ≤ length l - end
     → length l - (end + length_size) < n → segments_of (drop end l) ≡ []
 cut-segment {l} {end = end} g n said long h =
     segments_none (drop end l) (rw (length-drop end l, said-there l end n said (omega (arith, g.within))) (omega (arith, g.within)))

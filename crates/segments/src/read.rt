@@ -21,7 +21,8 @@ pub enum Part {
 struct Pass {
     count: usize,
     end: usize,
-    met: Option<Part>,
+    start: usize,
+    length: usize,
 }
 
 fn scan(more: &[u8], k: usize) -> Pass
@@ -29,7 +30,8 @@ fn scan(more: &[u8], k: usize) -> Pass
 {
     let mut count: usize = 0;
     let mut end: usize = 0;
-    let mut met = None;
+    let mut start: usize = 0;
+    let mut length: usize = 0;
     'segments: while LENGTH <= more.len() - end {
         let from = end + LENGTH;
         let size = get::<u16>(more, end) as usize;
@@ -39,13 +41,16 @@ fn scan(more: &[u8], k: usize) -> Pass
         end = from + size;
         count += 1;
         if count == k {
-            met = Some(Part::Listed {
-                start: from,
-                length: size,
-            });
+            start = from;
+            length = size;
         }
     }
-    Pass { count, end, met }
+    Pass {
+        count,
+        end,
+        start,
+        length,
+    }
 }
 
 // Where segment k lies; the list is judged whole for every k.
@@ -59,13 +64,16 @@ pub fn locate(first: &[u8], more: &[u8], k: usize) -> Result<Part, Refusal>
     if MOST_SEGMENTS < pass.count {
         return Err(Refusal::TooManySegments);
     }
+    if pass.count < k {
+        return Err(Refusal::NoSuchSegment);
+    }
     if k == 0 {
         return Ok(Part::First(first.len()));
     }
-    match pass.met {
-        Some(part) => Ok(part),
-        None => Err(Refusal::NoSuchSegment),
-    }
+    Ok(Part::Listed {
+        start: pass.start,
+        length: pass.length,
+    })
 }
 
 // The caller's own bytes: the first buffer for k = 0, the k-th segment of the list otherwise, an empty part on a refusal.
