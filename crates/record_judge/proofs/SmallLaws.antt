@@ -9,7 +9,7 @@ use lib.Bits.{bit_or, or_lt}
 use lib.Dec.{ltb}
 use borrow.Author.Tests.{ltb-true, ltb-false, lt-ltb, le-ltb}
 use Rattle.octets.specs.Joined.{joined}
-use Rattle.octets.proofs.JoinedLaws.{or_le-left, or_le_right}
+use Rattle.std.proofs.lemmas.Nat.{le_or_l, le_or_r}
 use Rattle.rules.specs.Lists.{every}
 use Rattle.rules.specs.Record.{item_end_in, item_end}
 use Rattle.rules.proofs.KindAreaLaws.{area_by_lem}
@@ -19,8 +19,8 @@ two-small k a x = go (ltb a (2 ^ k)) (ltb x (2 ^ k)) refl refl
   where
     go : (p q : Bool) → ltb a (2 ^ k) ≡ p → ltb x (2 ^ k) ≡ q → ltb (bit_or a x) (2 ^ k) ≡ p && q
     go true true e f = lt-ltb (bit_or a x) (2 ^ k) (or_lt k a x (ltb-true a (2 ^ k) e) (ltb-true x (2 ^ k) f))
-    go true false e f = le-ltb (bit_or a x) (2 ^ k) (omega (arith, or_le_right a x, ltb-false x (2 ^ k) f))
-    go false q e f = le-ltb (bit_or a x) (2 ^ k) (omega (arith, or_le-left a x, ltb-false a (2 ^ k) e))
+    go true false e f = le-ltb (bit_or a x) (2 ^ k) (omega (arith, le_or_r a x, ltb-false x (2 ^ k) f))
+    go false q e f = le-ltb (bit_or a x) (2 ^ k) (omega (arith, le_or_l a x, ltb-false a (2 ^ k) e))
 
 joined_small : (k a : ℕ) (xs : List ℕ) → ltb (joined a xs) (2 ^ k) ≡ ltb a (2 ^ k) && every (λ x. ltb x (2 ^ k)) xs
 unfolding joined every

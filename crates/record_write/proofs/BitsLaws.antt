@@ -10,7 +10,7 @@ use lib.Bits.{bit_or, or_zero_l}
 use lib.Dec.{eqb}
 use borrow.Author.Tests.{ne_eqb}
 use Rattle.octets.specs.Joined.{joined}
-use Rattle.octets.proofs.JoinedLaws.{or_le-left}
+use Rattle.std.proofs.lemmas.Nat.{le_or_l}
 
 -- ---- fields that are zero
 
@@ -18,7 +18,7 @@ use Rattle.octets.proofs.JoinedLaws.{or_le-left}
 pub both_zero : (a b : ℕ) → eqb (bit_or a b) 0 ≡ eqb a 0 && eqb b 0
 both_zero zero b = rw (or_zero_l b)
 both_zero (suc a) b =
-    rw (ne_eqb (suc a) 0 (λ e. omega arith)) (ne_eqb (bit_or (suc a) b) 0 (λ e. omega (arith, or_le-left (suc a) b)))
+    rw (ne_eqb (suc a) 0 (λ e. omega arith)) (ne_eqb (bit_or (suc a) b) 0 (λ e. omega (arith, le_or_l (suc a) b)))
 
 -- ---- items
 

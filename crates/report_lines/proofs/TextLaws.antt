@@ -5,13 +5,11 @@ use Prim.Native.Nat.{ℕ, zero, suc, ◌+◌, ◌/◌, ◌%◌, ◌^◌, ◌≤�
 use native.Mathlib.Nat.{add_comm}
 use native.Mathlib.Omega.{arith}
 use native.Mathlib.Numerals.{add-one}
-use lib.ListN.{length, take, drop, set, length-append}
-use lib.Seq.{sets, sets-eq, drop-drop}
+use lib.ListN.{length, drop, set, length-append}
 use borrow.Author.Tests.{lt-ltb, le-ltb}
 use Rattle.std.specs.Fmt.{decimal as std_decimal}
 use Rattle.std.proofs.lemmas.List.{drop-set}
 use Rattle.std.proofs.lemmas.Fmt.{decimal_from_appends, length-decimal-le}
-use borrow.Rule.Slice.PartMut.{put_mid}
 use Rattle.octets.proofs.RunsLaws.{sets-run}
 use Rattle.report_lines.specs.Text.{glyph, digits, places, decimal, Said}
 use Rattle.report_lines.specs.Told.{Tells}
@@ -74,12 +72,6 @@ tells_then a b =
       same_buffer = b.same_buffer ∙ a.same_buffer;
       same_length = b.same_length ∙ a.same_length;
     }
-
--- a part of the buffer that was written over
-pub written-over : (out text : List ℕ) (at k : ℕ) → k ≡ length text → at + k ≤ length out → put_mid at k out text ≡ sets out at text
-written-over out text at k e h =
-    let rest : drop k (drop at out) ≡ drop (at + length text) out = drop-drop k at out ∙ ap (λ (n : ℕ). drop (at + n) out) e in
-    sym (sets-eq text out at (omega arith) ∙ append_assoc (take at out) text (drop (at + length text) out) ∙ ap (λ (l : List ℕ). take at out ++ (text ++ l)) (sym rest))
 
 pub tells_none : (s : Text) → Tells s [] s
 tells_none s = record { said = record { stored = refl; ends = omega arith }; same_buffer = refl; same_length = refl }

@@ -14,17 +14,14 @@ fn lengths_fit(lengths: &[u64], bytes: usize) -> bool
     ensures { result ≡ lengths_fit lengths.now bytes }
 {
     let mut left = bytes as u64;
-    let mut k = 0;
-    while k < lengths.len() {
-        let length = lengths[k];
-        if LONGEST_SEGMENT < length {
+    for size in lengths {
+        if LONGEST_SEGMENT < *size {
             return false;
         }
-        if left < length {
+        if left < *size {
             return false;
         }
-        left -= length;
-        k += 1;
+        left -= *size;
     }
     left == 0
 }
@@ -47,8 +44,8 @@ fn verdict(bytes: &[u8], lengths: &[u64], room: usize) -> Result<(), Refusal>
 
 // A segment behind its length, at an index of the list.
 fn put_segment(list: &mut [u8], at: usize, segment: &[u8])
-    requires segment_in_bounds { at + (length_size + length segment.now) ≤ length list.old }
-    requires segment_len_bound { length segment.now ≤ longest_segment }
+    requires holds_segment { at + (length_size + length segment.now) ≤ length list.old }
+    requires length_fits { length segment.now ≤ longest_segment }
     ensures { list.new ≡ sets list.old at (segment_bytes segment.now) }
 {
     put(list, at, segment.len() as u16);
@@ -62,14 +59,11 @@ fn put_segments(bytes: &[u8], lengths: &[u64], list: &mut [u8])
 {
     let mut from = 0;
     let mut at = 0;
-    let mut k = 0;
-    while k < lengths.len() {
-        let length = lengths[k] as usize;
-        let end = from + length;
+    for size in lengths {
+        let end = from + *size as usize;
         put_segment(list, at, &bytes[from..end]);
+        at += LENGTH + *size as usize;
         from = end;
-        at += LENGTH + length;
-        k += 1;
     }
 }
 

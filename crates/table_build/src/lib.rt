@@ -63,6 +63,7 @@ pub fn put_header(table: &mut [u8], count: usize)
 }
 
 // Cells behind the header, each made by the caller of one of so many runs of one size. The converter asks this too.
+// Stays: an index, since nothing is known of what a chunk of `chunks_exact_mut` holds once it is given back.
 pub fn put_cells<F: Fn(&mut [u8], &[u8])>(
     table: &mut [u8],
     runs: &[u8],

@@ -62,7 +62,7 @@ fn item_grade(m: Message, s: &[u8]) -> Option<Grade>
 // An item as most are, without extensions: its id, its length and its padding are seen at once. Of anything else nothing is said.
 // Stays: `plain` beside the message that says it. Computed for each item, a response of 512 cells took 15,009 instructions to read in place of 13,470.
 fn plain_item(m: Message, plain: u32, s: &[u8], at: usize) -> bool
-    requires plain_value { plain ≡ plain_head m }
+    requires head_of_items { plain ≡ plain_head m }
     requires at_in_bounds { at ≤ length s.now }
     ensures { PlainItem m s.now at result }
 {
@@ -79,7 +79,7 @@ fn plain_item(m: Message, plain: u32, s: &[u8], at: usize) -> bool
 // The entry of the list at an index. An item's bytes are lent on; another element is not looked into, and is never skipped. Where PLAIN, only an item as most
 // are is looked for.
 fn entry_at<const PLAIN: bool>(m: Message, plain: u32, s: &[u8], at: usize) -> Option<Listed>
-    requires plain_value { plain ≡ plain_head m }
+    requires head_of_items { plain ≡ plain_head m }
     requires at_in_bounds { at ≤ length s.now }
     ensures { ListedAt PLAIN m s.now at result }
 {

@@ -6,4 +6,4 @@ pub returns-then-present-eq0 : goal.returns-then-present-eq0
 returns-then-present-eq0 c = given-none _ _ c.requires.at_in_bounds _ c.if-present-eq0.true
 
 pub returns : goal.returns
-returns c = given-one _ _ _ c.extensions_at.ensures _ c.requires.present_bound c.if-present-eq0.false
+returns c = given-one _ _ _ c.extensions_at.ensures _ c.requires.one_bit c.if-present-eq0.false

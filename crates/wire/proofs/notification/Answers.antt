@@ -6,8 +6,8 @@ use Rattle.wire.proofs.notification.Goals as goal
 pub returns-in_err-note : goal.returns-in_err-note
 returns-in_err-note c = rw c.from_residual.ensures (note-none _ c.in_err-note.ensures)
 
-pub given_at-requires-clause-present_bound : goal.given_at-requires-clause-present_bound
-given_at-requires-clause-present_bound c = note_present _ _ _ c.in_ok-note.ensures
+pub given_at-requires-clause-one_bit : goal.given_at-requires-clause-one_bit
+given_at-requires-clause-one_bit c = note_present _ _ _ c.in_ok-note.ensures
 
 pub returns-in_err-extensions : goal.returns-in_err-extensions
 returns-in_err-extensions c = rw c.from_residual-in_err-extensions.ensures (extensions-none _ _ c.in_ok-note.ensures c.in_err-extensions.ensures)
