@@ -1,10 +1,9 @@
--- The last places of a cell written out, and what a walk over pieces lends in a turn.
+-- The last places of a cell written out, and what is lent of a table.
 -- By `drop-drop`: where code writes places out, their pieces are written out too.
 use mathlib.Core.Path.{◌≡◌}
 use mathlib.Core.Bool.{Bool, ◌&&◌, and_assoc, and-true}
 use mathlib.Core.List.{List}
-use Prim.Native.Nat.{ℕ, zero, suc, ◌+◌, ◌*◌, ◌-◌, ◌≤◌, ◌<◌}
-use native.Mathlib.Nat.{mul-suc}
+use Prim.Native.Nat.{ℕ, ◌+◌, ◌*◌, ◌-◌, ◌≤◌}
 use native.Mathlib.Omega.{arith}
 use lib.ListN.{length, take, drop, length-drop}
 use lib.Seq.{take_all, drop-drop}
@@ -44,11 +43,3 @@ module _ (f : List ℕ → Bool) (l : List ℕ) (i left : ℕ) (fits : i + 24 * 
 -- all from index n on
 pub take_rest : (n : ℕ) (l : List ℕ) → take (length l - n) (drop n l) ≡ drop n l
 take_rest n l = take_all (length l - n) (drop n l) (rw length-drop (omega arith))
-
--- a turn's piece lies in the list, and the others behind it
-pub piece-fits : (w at left : ℕ) {n : ℕ} → at + w * left ≡ n → 0 < left → (at + w ≤ n) × (at + w + w * (left - 1) ≡ n)
-piece-fits w at zero e h = absurd (omega arith)
-piece-fits w at (suc k) e h =
-    let s : w * suc k ≡ w * k + w = mul-suc w k in
-    let p : suc k - 1 ≡ k = omega arith in
-    rw p (omega arith, omega arith)
