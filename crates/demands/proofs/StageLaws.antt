@@ -115,7 +115,7 @@ EachWithin [] = Unit
 EachWithin (s ∷ later) = Within s.lowest s.highest s.verdict × EachWithin later
 
 -- no refusal is acceptance
-apart : (x : Refusal) → (Ok tt) ≡ Err x → ⊥
+apart : (x : Refusal) → ◌≡◌ {A = Verdict} (Ok tt) (Err x) → ⊥
 apart x e = let z : 0 ≡ number_of x = ap verdict_number e in omega (arith, number_positive x)
 
 module _ (lowest highest : ℕ) where
