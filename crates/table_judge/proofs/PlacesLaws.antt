@@ -6,7 +6,7 @@ use mathlib.Core.List.{List}
 use Prim.Native.Nat.{ℕ, ◌+◌, ◌-◌, ◌*◌, ◌≤◌, ◌<◌}
 use native.Mathlib.Nat.{add-zero}
 use native.Mathlib.Omega.{arith}
-use borrow.Author.Tests.{ne_eqb, not-true, not-false}
+use borrow.Author.Tests.{ne_eqb}
 use lib.Dec.{eqb}
 use lib.ListN.{length, take, drop, length-drop}
 use lib.Seq.{length-take-le}
@@ -68,15 +68,15 @@ module _ {l : List ℕ} {at left x y z : ℕ} (p : PlacesLeft l at left x y z) (
           let k : at + place_size current - at ≡ place_size current = omega arith in
           p.rest ∙ rw (pieces_more (place_size current) left at l h, ← live_here, ← ev, ne_eqb v 0 n, ← text_here, ← et, er, k)
 
-      pub places-wrong : not (r && not (eqb t x) && not (eqb t y) && not (eqb t z)) ≡ true → legal_places current (pieces (place_size current) places_per_cell l) ≡ false
-      places-wrong e = turn ∙ rw (not-true (r && not (eqb t x) && not (eqb t y) && not (eqb t z)) e)
+      pub places-wrong : (r && not (eqb t x) && not (eqb t y) && not (eqb t z)) ≡ false → legal_places current (pieces (place_size current) places_per_cell l) ≡ false
+      places-wrong e = turn ∙ rw e
 
-      pub places_on : not (r && not (eqb t x) && not (eqb t y) && not (eqb t z)) ≡ false → {next fewer : ℕ} → next ≡ at + place_size current → fewer ≡ left - 1 → PlacesLeft l next fewer t x y
+      pub places_on : (r && not (eqb t x) && not (eqb t y) && not (eqb t z)) ≡ true → {next fewer : ℕ} → next ≡ at + place_size current → fewer ≡ left - 1 → PlacesLeft l next fewer t x y
       places_on e n m =
           let few = p.few in
           let fits = p.fits in
           record {
             few = omega arith;
             fits = omega arith;
-            rest = turn ∙ rw (n, m, not-false (r && not (eqb t x) && not (eqb t y) && not (eqb t z)) e);
+            rest = turn ∙ rw (n, m, e);
           }

@@ -4,4 +4,4 @@ use Rattle.response_judge.proofs.fronted.Goals as goal
 
 pub returns : goal.returns
 returns c =
-    front_there _ (λ i. (c.shared_slice_known-1.given i).fits) c.if-s-lt-FRONT.false _ _ _ c.get.ensures c.get-head.ensures c.get-2.ensures
+    front_there _ (λ i. (c.type_inv.s i).fits) c.if-s-lt-FRONT.false _ _ _ c.get.ensures c.get-head.ensures c.get-2.ensures

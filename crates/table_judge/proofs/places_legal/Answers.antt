@@ -1,7 +1,6 @@
 -- `places_legal` says whether the four places of a cell are legal.
 -- The invariant, `PlacesLeft`, speaks of the places still to come and of the last three texts.
-use mathlib.Core.Bool.{not}
-use mathlib.Core.Path.{sym, ◌∙◌, ap}
+use mathlib.Core.Path.{sym, ◌∙◌}
 use native.Mathlib.Omega.{arith}
 use Rattle.table_judge.proofs.PlacesLaws.{places-start, places-free, places-wrong, places_on, places-end}
 use Rattle.table_judge.proofs.places_legal.Goals as goal
@@ -16,11 +15,11 @@ returns-then-get-eq0 c =
 
 pub returns-then-not-live_legal-text : goal.returns-then-not-live_legal-text
 returns-then-not-live_legal-text c =
-    sym (places-wrong c.loop-k.invariant (omega (arith, c.loop-k-test.true)) _ c.get.ensures c.if-get-eq0.false _ c.get-text.ensures _ c.live_legal.ensures (ap not c.if-not-live_legal-text.true))
+    sym (places-wrong c.loop-k.invariant (omega (arith, c.loop-k-test.true)) _ c.get.ensures c.if-get-eq0.false _ c.get-text.ensures _ c.live_legal.ensures c.if-not-live_legal-text.true)
 
 pub loop-k-preserved : goal.loop-k-preserved
 loop-k-preserved c =
-    places_on c.loop-k.invariant (omega (arith, c.loop-k-test.true)) _ c.get.ensures c.if-get-eq0.false _ c.get-text.ensures _ c.live_legal.ensures (ap not c.if-not-live_legal-text.false)
+    places_on c.loop-k.invariant (omega (arith, c.loop-k-test.true)) _ c.get.ensures c.if-get-eq0.false _ c.get-text.ensures _ c.live_legal.ensures c.if-not-live_legal-text.false
     (omega arith) (omega arith)
 
 pub returns : goal.returns

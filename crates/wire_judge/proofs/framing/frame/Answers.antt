@@ -11,7 +11,7 @@ other_frame-requires c = frame-not-own _ _ None (rw c.in-None.is at c.element_at
 pub returns-then-element-frame_id : goal.returns-then-element-frame_id
 returns-then-element-frame_id c =
     let read = rw c.in-Some.is at c.element_at.ensures in
-    frame-own c.args.m _ (λ i. (c.shared_slice_known-1.given i).fits) _ _ _ _ read _ c.frame_id.ensures (rw (c.is_ok.ensures.value, criticality_test _ _ c.try_from.ensures) at c.if-element-frame_id.true)
+    frame-own c.args.m _ (λ i. (c.type_inv.s i).fits) _ _ _ _ read _ c.frame_id.ensures (rw (c.is_ok.ensures.value, criticality_test _ _ c.try_from.ensures) at c.if-element-frame_id.true)
 
 pub other_frame-requires-in-Some : goal.other_frame-requires-in-Some
 other_frame-requires-in-Some c =

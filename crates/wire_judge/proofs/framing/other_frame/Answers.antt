@@ -45,6 +45,6 @@ returns-in-None c = frame-none _ _ 0 _ _ (framing (goal.at.returns-in-None c).El
 
 pub returns-else-element-s : goal.returns-else-element-s
 returns-else-element-s c =
-    let bytes : Bytes c.args.s.now = λ i. (c.shared_slice_known-1.given i).fits in
+    let bytes : Bytes c.args.s.now = λ i. (c.type_inv.s i).fits in
     frame-other _ _ 0 _ _ (framing (goal.at.returns-else-element-s c).Else-choice) _ _ _ _ (read (goal.at.returns-else-element-s c).In-Some) (criticality_ok _ _ c.try_from.ensures c.if-is_err.ensures.value) c.if-element-s.false
     (other-own c.args.m _ bytes _ _ _ _ _ (some (goal.at.returns-else-element-s c).Else-choice) c.get-choice.ensures (read (goal.at.returns-else-element-s c).In-Some) c.if-choice-ne0.false c.requires (criticality_ok _ _ c.try_from.ensures c.if-is_err.ensures.value) c.if-element-s.false)
