@@ -61,8 +61,6 @@ pub const FILLING_AT: usize = 22;
 
 pub const LONGEST_PERIOD: u32 = 131071;
 
-pub const MOST_SENT: u16 = 65535;
-
 pub const FIRST_SIB: u8 = 6;
 
 pub const LAST_SIB: u8 = 8;
