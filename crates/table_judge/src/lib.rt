@@ -99,7 +99,7 @@ pub fn runs_legal<F: Fn(&[u8]) -> bool>(runs: &[u8], size: usize, count: usize, 
     true
 }
 
-// The NR CGI of the cell or head from an index on. The builder and the converter ask this too.
+// The NR CGI of the cell or head from an index on.
 pub fn identity_at(runs: &[u8], at: usize) -> CellIdentity
     requires { at + head_size current ≤ length runs.now }
     ensures { identity_number result ≡ identity_at current (drop at runs.now) }
