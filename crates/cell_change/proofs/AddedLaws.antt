@@ -1,12 +1,11 @@
 -- The bytes of a place stored where the first free one was: the cell has one place more, behind the others.
 -- By the runs behind the head: a free run becomes that of the new place.
 use mathlib.Core.Path.{◌≡◌, sym, ap, ◌∙◌}
-use mathlib.Core.List.{List, [], ◌∷◌, ◌++◌, map, map-append, append_assoc}
-use Prim.Native.Nat.{ℕ, ◌+◌}
+use mathlib.Core.List.{List, [], ◌∷◌, ◌++◌, map, map-append}
+use Prim.Native.Nat.{ℕ}
 use native.Mathlib.Omega.{arith}
-use borrow.Rule.Slice.PartMut.{put_mid}
-use lib.ListN.{length, take, drop, set, length-map}
-use lib.Seq.{sets, sets-eq, take_all, drop-drop}
+use lib.ListN.{length, take, set, length-map}
+use lib.Seq.{sets}
 use Rattle.octets.specs.Runs.{Bytes}
 use Rattle.octets.proofs.FieldsLaws.{length-padded}
 use Rattle.octets.proofs.PartsLaws.{sets_over}
@@ -31,18 +30,14 @@ module _ (c : List ℕ) (k : ℕ) (at : FreeAt c k) (b : List ℕ) (one : OnePla
       rw (e, map-append (place_bytes current) ps (place_of current b ∷ []), place-back current b bytes one.long one.live)
       (padded-more (free_bytes current) places_per_cell (map (place_bytes current) ps) b (omega arith))
 
-  pub added : (n : ℕ) (vs : List ℕ) → n ≡ place_size current → vs ≡ take (place_size current) b → put_mid (place_from k) n c vs ≡ with_places c (live_places c ++ (place_of current b ∷ []))
-  added n vs en e =
+  pub added : sets c (place_from k) b ≡ with_places c (live_places c ++ (place_of current b ∷ []))
+  added =
       let ps : List Place = live_places c in
       let long = one.long in
       let size = at.formed.size in
       let room = at.room in
       let first = at.first in
-      let all : vs ≡ b = e ∙ take_all (place_size current) b (omega arith) in
       let runs : length (runs_of current ps) ≡ places_per_cell = length-padded places_per_cell (free_bytes current) (map (place_bytes current) ps) in
-      let stored : sets c (place_from k) b ≡ take (place_from k) c ++ (b ++ drop (place_from k + place_size current) c) =
-      rw long at (sets-eq b c (place_from k) (omega arith)) ∙ append_assoc (take (place_from k) c) b (drop (place_from k + place_size current) c) in
-      rw (all, en) (ap (λ (l : List ℕ). take (place_from k) c ++ (b ++ l)) (drop-drop (place_size current) (place_from k) c) ∙ sym stored)
-      ∙ ap (λ (l : List ℕ). sets l (place_from k) b) (at.formed.whole ∙ with_places-runs c ps)
+      ap (λ (l : List ℕ). sets l (place_from k) b) (at.formed.whole ∙ with_places-runs c ps)
       ∙ joined-sets (place_size current) (wide_runs ps) (take (head_size current) c) b (head_size current) k 0 (place_from k) (head-long c at.formed.size) (omega arith) (omega arith) (omega arith)
       ∙ rw (free-run c k (omega arith) room, sets_over b (free_bytes current) one.long, more-runs) (sym (with_places-runs c (ps ++ (place_of current b ∷ []))))

@@ -7,7 +7,7 @@ ghost use Rattle.rules.specs.Table.{place_of, place_bytes};
 ghost use Rattle.rules.specs.InCell.{with_counts};
 ghost use Rattle.cell_read.specs.Places.{live_places, with_places, with_place, place_at, LiveAt, FreeAt, OnePlace, without};
 
-use octets::put;
+use octets::{Number, get, put};
 use rules::layout::{
     CELL, CONTENT_AT, HEAD, LIVE_AT, PERIOD_AT, PLACE, PLACE_SERIAL_AT, PLACES, REQUESTED_AT,
     SENT_AT, SIB_AT, WAIT_AT,
@@ -61,13 +61,16 @@ pub fn free_all(cell: &mut [u8])
 }
 
 // `new` has the bytes of the place.
+// Stays: three stores, since `copy_from_slice` asks whether the two overlap, as for a head in `table_build`.
 pub fn add_place(cell: &mut [u8], k: usize, new: &[u8])
     requires free_at { FreeAt cell.old k }
     requires one_place { OnePlace new.now }
     ensures { cell.new ≡ with_places cell.old (live_places cell.old ++ (place_of current new.now ∷ [])) }
 {
     let at = HEAD + PLACE * k;
-    cell[at..at + PLACE].copy_from_slice(&new[..PLACE]);
+    put(cell, at, get::<u64>(new, 0));
+    put(cell, at + u64::BYTES, get::<u64>(new, u64::BYTES));
+    put(cell, at + 2 * u64::BYTES, get::<u64>(new, 2 * u64::BYTES));
 }
 
 // The bytes of a live place, as `add_place` takes them.

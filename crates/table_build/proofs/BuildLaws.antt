@@ -9,11 +9,11 @@ use native.Mathlib.Omega.{arith}
 use borrow.Rule.Slice.PartMut.{mid_of, put_mid}
 use lib.ListN.{length, take, drop, replicate, length-append, length-drop, drop_of_length-le}
 use lib.Seq.{sets, sets-eq, length-sets, take_all, take_at, drop-drop}
-use Rattle.octets.specs.Runs.{gets, pieces, Bytes}
-use Rattle.octets.specs.Numbers.{be, to_be}
+use Rattle.octets.specs.Runs.{pieces}
+use Rattle.octets.specs.Numbers.{to_be}
 use Rattle.octets.specs.Fields.{bytes_of}
-use Rattle.octets.proofs.RunsLaws.{gets_eq, gets_run, length-gets, sets-run, sets_front}
-use Rattle.octets.proofs.NumbersLaws.{length-to_be, to_be-gets, to_be_join}
+use Rattle.octets.proofs.RunsLaws.{sets-run, sets_front}
+use Rattle.octets.proofs.NumbersLaws.{length-to_be, to_be_join}
 use Rattle.rules.specs.Layout.{current, places_per_cell, most_cells, header_size, head_size, cell_size, table_mark, version_number}
 use Rattle.rules.specs.Table.{header_bytes}
 use Rattle.table_build.specs.Build.{empty_run}
@@ -45,15 +45,6 @@ header-stored n h t p q =
     (sets-run (to_be 8 (((table_mark * 65536 + version_number current) * 65536 + n) * 256 + places_per_cell)) (to_be 8 0) t 0 8 (rw length-to_be refl))
 
 -- ---- a cell
-
--- a head that is stored in three parts is stored whole
-pub head-stored : (cell head : List ℕ) → Bytes head → length head ≡ head_size current → {x y z : ℕ} → x ≡ be (gets head 0 8) → y ≡ be (gets head 8 8) → z ≡ be (gets head 16 8)
-    → {a b c : List ℕ} → a ≡ sets cell 0 (to_be 8 x) → b ≡ sets a 8 (to_be 8 y) → c ≡ sets b 16 (to_be 8 z) → c ≡ sets cell 0 head
-head-stored cell head bytes long x y z p q r =
-    let whole : gets head 0 24 ≡ head = gets_eq 24 head 0 (omega arith) ∙ take_all 24 head (omega arith) in
-    rw (r, q, p, x, y, z, to_be-gets 8 head 0 bytes, to_be-gets 8 head 8 bytes, to_be-gets 8 head 16 bytes)
-    (rw (sets-run (gets head 0 8) (gets head 8 8) cell 0 8 (rw length-gets), gets_run 8 head 0 8 8 refl)
-    (sets-run (gets head 0 16) (gets head 16 8) cell 0 16 (rw length-gets) ∙ rw (gets_run 16 head 0 16 8 refl, whole)))
 
 -- the front copied, and what is behind it cleared: a the list after the copy, z what was lent after the clearing
 front_stored : (w : ℕ) (l front a z : List ℕ) → length front ≡ w → w ≤ length l → a ≡ sets l 0 front → z ≡ replicate (length (mid_of w (length a - w) a)) 0
