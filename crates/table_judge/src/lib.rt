@@ -236,6 +236,7 @@ fn live_legal(place: &[u8]) -> bool
 }
 
 // The place that 24 bytes say.
+// Stays: a function and no From, which has no `requires` and would be of two types that are not this crate's.
 fn place_of(place: &[u8]) -> Place
     requires { length place.now ≡ place_size current }
     ensures { result ≡ place_of current place.now }
