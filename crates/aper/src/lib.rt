@@ -14,6 +14,7 @@ pub struct Length {
 }
 
 // An element: its id, the two bits of its criticality, which are read of unknown elements alone, where its contents begin and where they end.
+// Stays: the two bits and no Criticality, since those of a known element may be 3, which is none, and are not read.
 #[derive(Clone, Copy)]
 pub struct Element {
     pub id: u16,

@@ -94,6 +94,7 @@ pub fn seek(cell: &[u8], wanted: u32) -> Result<usize, usize>
 // ---- the head
 
 // The emergency areas of a head, of which the first `used` count.
+// Stays: an array and how many of it count, since there are four at most and no heap.
 #[derive(Clone, Copy)]
 pub struct Areas {
     pub used: u8,

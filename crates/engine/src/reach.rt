@@ -12,6 +12,7 @@ use rules::kind::{CELLS, EMERGENCY_AREAS, TRACKING_AREAS};
 
 // The keys of a cell, each turned, of which the first `keys` are in use: its NR CGI, the item that names its tracking area, or its
 // emergency areas.
+// Stays: an array and how many of it count, since there are four at most and no heap.
 #[derive(Clone, Copy)]
 pub struct Naming {
     pub keys: u8,

@@ -54,8 +54,8 @@ pub fn walk(
 }
 
 // A second has no area: every cell is reached, and no items are looked through. `req` is there for what is promised of it.
-// Stays: a loop of its own, and not one loop that is handed what to do in a cell, since document 01 names the form of the walk, a loop over
-// cells around one over items (docs/DECISIONS.md).
+// Stays: a loop of its own, whose counters stay in registers, and not one loop that is handed what to do in a cell, since document 01 names the
+// form of the walk, a loop over cells around one over items (docs/DECISIONS.md).
 fn seconds(table: &mut [u8], cells: usize, req: &[u8], answer: &mut [u8]) -> usize
     requires { SecondIn table.old cells req.now answer.old }
     ensures { WalkOut table.old req.now (request_of req.now) answer.old table.new answer.new result }

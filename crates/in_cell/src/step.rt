@@ -12,6 +12,7 @@ use rules::Request;
 use rules::kind::{CANCEL_OR_KILL, RESTART, WRITE_REPLACE};
 
 // A request of no other kind is accepted, and a second goes its own way, so what is left is a failure.
+// Stays: request and place handed over one by one, as in `start_in_cell`: docs/PROMISES.md names it with what it asks (`ToStep`).
 pub fn step_cell(cell: &mut [u8], request: Request, new: &[u8], out: &mut [u8]) -> usize
     requires ready { Ready cell.old out.old (rows_per_cell request.kind) }
     requires to_step { (ToStep request new.now) × (request.kind ≡ one_second → ⊥) }

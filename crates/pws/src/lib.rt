@@ -4,7 +4,8 @@
 
 ghost use Rattle.std.specs.Prelude.{◌≡◌};
 ghost use Rattle.rules.specs.Applied.{read_by};
-ghost use Rattle.pws.specs.Surface.{done_by, message_by, read_to};
+ghost use Rattle.segments.specs.Segments.{lies_by};
+ghost use Rattle.pws.specs.Surface.{done_by, lies, message_by, read_to};
 ghost use Rattle.pws.specs.Promises.{BuildPromise, ConvertPromise, ApplyPromise, ReadPromise, WritePromise, ItemPromise, SegmentPromise, PackPromise, ReadCancelPromise, WriteResponsePromise, ReadResponsePromise};
 
 use rules::{Refusal, Request, writing_length, writing_number};
@@ -100,6 +101,34 @@ impl From<Result<Taken, Refusal>> for PwsMessage {
     }
 }
 
+// What the reader of segments answers.
+impl From<Result<Part, Refusal>> for PwsPart {
+    ghost from_gives = { λ part told. lies told ≡ lies_by part };
+
+    fn from(part: Result<Part, Refusal>) -> Self {
+        match part {
+            Ok(Part::First(length)) => PwsPart {
+                number: 0,
+                buffer: 0,
+                start: 0,
+                length,
+            },
+            Ok(Part::Listed { start, length }) => PwsPart {
+                number: 0,
+                buffer: 1,
+                start,
+                length,
+            },
+            Err(why) => PwsPart {
+                number: why.number(),
+                buffer: 0,
+                start: 0,
+                length: 0,
+            },
+        }
+    }
+}
+
 pub fn pws_build(heads: &[u8], table: &mut [u8]) -> PwsDone
     ensures { BuildPromise heads.now table.old result table.new }
 {
@@ -139,26 +168,7 @@ pub fn pws_item(req: &[u8], k: usize) -> u64
 pub fn pws_segment(first: &[u8], more: &[u8], k: usize) -> PwsPart
     ensures { SegmentPromise first.now more.now k result }
 {
-    match segments::read::locate(first, more, k) {
-        Ok(Part::First(length)) => PwsPart {
-            number: 0,
-            buffer: 0,
-            start: 0,
-            length,
-        },
-        Ok(Part::Listed { start, length }) => PwsPart {
-            number: 0,
-            buffer: 1,
-            start,
-            length,
-        },
-        Err(why) => PwsPart {
-            number: why.number(),
-            buffer: 0,
-            start: 0,
-            length: 0,
-        },
-    }
+    segments::read::locate(first, more, k).into()
 }
 
 pub fn pws_pack(bytes: &[u8], lengths: &[u64], list: &mut [u8]) -> PwsDone

@@ -1,5 +1,6 @@
 // The C library, libpws.a: each function of the crate pws, exported under its own name with the same contract. A slice is lent as a pointer
 // and then a length.
+// Stays: each function twice, here and in pws, since a crate is a library or a static library and demands speaks of the contracts of pws.
 #![tactic(auto)]
 
 ghost use Rattle.pws.specs.Promises.{BuildPromise, ConvertPromise, ApplyPromise, ReadPromise, WritePromise, ItemPromise, SegmentPromise, PackPromise, ReadCancelPromise, WriteResponsePromise, ReadResponsePromise};

@@ -98,6 +98,7 @@ fn cancels_nothing(request: Request) -> bool
 
 // The first of the refusals 5, 6 and 7 that applies. `textless`: the fields from identifier to SIB kind are zero; `omitted`: those are that
 // a cancel leaves out; `any`: every bit that is set in any of the n items.
+// Stays: five values told one by one: `told_verdict`, which `judged_once` and `told-verdict` (docs/PROMISES.md) are about, takes them so.
 #[tactic(auto, unfolding(crate::specs::Told::told_verdict))]
 pub fn judged(
     request: Request,

@@ -23,6 +23,7 @@ use rules::layout::{
 use rules::{Broadcasts, Refusal, Request, Seconds};
 
 // The fields of a record.
+// Stays: a function and no From, which has no `requires` and would be of two types that are not this crate's.
 #[tactic(auto, using(crate::proofs::FieldReads::request_read))]
 pub fn request(req: &[u8]) -> Request
     requires { record_size ≤ length req.now }
@@ -65,6 +66,7 @@ fn longest_asked(req: &[u8]) -> Seconds
 // ---- 5, 6 and 7, asked of the bytes
 
 // "identifier to SIB" are zero: 15 bytes, in two reads that share one.
+// Stays: this and the next beside the writer's: the reader asks bytes by wide loads, the writer fields, and the one judge is told by both.
 #[tactic(auto, using(crate::proofs::FieldReads::text_zeros))]
 fn no_text(req: &[u8]) -> bool
     requires { record_size ≤ length req.now }
@@ -132,6 +134,7 @@ pub fn read(req: &[u8]) -> Result<(Request, usize), Refusal>
 }
 
 // The item number k of a record, 0 where the record ends before it.
+// Stays: 0 and no Option, since `item_at` says so and pws_item hands it to C.
 #[tactic(auto, unfolding(rules::specs::Applied::item_at))]
 pub fn item(req: &[u8], k: usize) -> u64
     ensures { result ≡ item_at req.now k }

@@ -1,6 +1,7 @@
 // A turn before there is a table: N and the heads at the front of the bytes at hand, or nothing yet.
 ghost use Rattle.std.specs.Prelude.{cond, List, ◌≡◌, ℕ, ◌+◌, ◌≤◌, length, take, None, IfSome};
 ghost use Rattle.rules.specs.Layout.{most_cells};
+ghost use Rattle.rules.specs.Refusals.{number_of};
 ghost use Rattle.rules.specs.Applied.{built};
 ghost use Rattle.report_lines.specs.Text.{no_text};
 ghost use Rattle.report_lines.specs.Framing.{heads_end};
@@ -13,6 +14,7 @@ ghost use Rattle.report_turns.specs.Turns.{Program, waiting, stopping, no_cells,
 use crate::{Held, Next, Took};
 use report_lines::frame::cells;
 use report_lines::text::Text;
+use rules::Refusal;
 use rules::layout::{CELL, HEAD, HEADER};
 use table_build::build;
 
@@ -42,11 +44,11 @@ fn no_cells(held: &[u8]) -> bool
 }
 
 // There will be no table.
-fn refuse(number: u32, text: &mut Text) -> Took
+fn refuse(refusal: Refusal, text: &mut Text) -> Took
     requires { HasRoom text.old most_text }
-    ensures { (p : Program) → p.cells ≡ None → Stepped (stopping (no_text number) p) p.table p.answer text.old result p.table p.answer text.new }
+    ensures { (p : Program) → p.cells ≡ None → Stepped (stopping (no_text (number_of refusal)) p) p.table p.answer text.old result p.table p.answer text.new }
 {
-    text.put_no(number);
+    text.put_no(refusal.number());
     Took {
         cells: None,
         bytes: 0,
@@ -60,7 +62,7 @@ fn without_heads(never: bool, text: &mut Text) -> Took
     ensures { (p : Program) → p.cells ≡ None → Stepped (cond never (stopping (no_text 9) p) (waiting p)) p.table p.answer text.old result p.table p.answer text.new }
 {
     if never {
-        return refuse(9, text);
+        return refuse(Refusal::BadHeads, text);
     }
     Took {
         cells: None,
@@ -77,7 +79,7 @@ fn build_table(heads: &[u8], cells: usize, table: &mut [u8], text: &mut Text) ->
     ensures { (a : List ℕ) → answer_room most_cells ≤ length a → Stepped (opened cells (program_in None table.old a) (built heads.now (take (table_size cells) table.old))) table.old a text.old result table.new a text.new }
 {
     if let Err(refusal) = build(heads, &mut table[..HEADER + CELL * cells]) {
-        return refuse(refusal.number(), text);
+        return refuse(refusal, text);
     }
     Took {
         cells: Some(cells),

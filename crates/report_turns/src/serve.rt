@@ -11,6 +11,7 @@ use engine::apply::apply;
 use report_lines::text::Text;
 
 // What comes next behind a refusal.
+// Stays: asked of the number, since `stops_at` (report_lines, specs/Framing) is a range of numbers.
 #[tactic(auto, unfolding(report_lines::specs::Framing::stops_at))]
 fn next_behind(number: u32) -> Next
     ensures { result ≡ Next·next_behind number }

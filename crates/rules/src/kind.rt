@@ -1,4 +1,6 @@
 // Document 01's kinds of request, flags and areas.
+// Stays: numbers and no enums, as in Request: C hands a Request over by value with any number in each (pws.h), the reader gives any of a
+// record's, and `room_for`, `put_head` and `naming_of` (docs/PROMISES.md) take them so.
 
 pub const WRITE_REPLACE: u8 = 1;
 

@@ -17,8 +17,8 @@ pub enum Part {
 }
 
 // What one pass over a list finds: how many segments are whole, where the last of them ends, and where the k-th lies if it is among them.
-// Stays: with `met: Option<Part>` for start and length the loop carries an enum, and the last of 63 segments takes 1,507 instructions, half as
-// long again, where it takes 1,183 so.
+// Stays: with `met: Option<Part>` for start and length the loop carries an enum, and the last of 63 segments takes 1,507 instructions where
+// it takes 1,183 so; by time that is half as long again, and the bar is 1.08 of the peer.
 #[derive(Clone, Copy)]
 struct Pass {
     count: usize,
@@ -34,6 +34,7 @@ fn scan(more: &[u8], k: usize) -> Pass
     let mut end: usize = 0;
     let mut start: usize = 0;
     let mut length: usize = 0;
+    // Stays: a loop that jumps by what it reads: each length says where the next segment begins.
     'segments: while LENGTH <= more.len() - end {
         let from = end + LENGTH;
         let size = get::<u16>(more, end) as usize;
@@ -90,6 +91,7 @@ pub fn segment<'a>(first: &'a [u8], more: &'a [u8], k: usize) -> &'a [u8]
 }
 
 // Why `segment` hands back an empty part on the same input, or 0.
+// Stays: 0 for no refusal, as its promise says (docs/PROMISES.md).
 pub fn number(first: &[u8], more: &[u8], k: usize) -> u32
     ensures { result ≡ (lies_at first.now more.now k).number }
 {

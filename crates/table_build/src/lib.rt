@@ -92,7 +92,8 @@ fn put_cell(cell: &mut [u8], head: &[u8])
 }
 
 // The head at the start of the cell. The converter asks this too.
-// Stays: three stores, since `copy_from_slice` asks whether the two overlap: ten instructions more for each cell (47,236 for 42,140 with 512 heads).
+// Stays: three stores, since `copy_from_slice` asks whether the two overlap: ten instructions more for each cell
+// (47,236 for 42,140 with 512 heads, in a library of the tables' crates alone).
 pub fn put_head(cell: &mut [u8], head: &[u8])
     requires { (length head.now ≡ head_size current) × (head_size current ≤ length cell.old) }
     ensures { cell.new ≡ sets cell.old 0 head.now }

@@ -14,6 +14,8 @@ use rules::layout::{
 use table_judge::{head_legal, header_legal, marked, places_legal, runs_legal};
 
 // Any bytes: accepted, or refusal 1 if they are no table of an older version, or 2 by that version's rules.
+// Stays: beside the judge of today's tables, since one function handed version, size and test would promise a third definition beside
+// `table_verdict` and `older_verdict`, which document 01 and 02 have.
 pub fn verdict(old: &[u8]) -> Result<(), Refusal>
     ensures { result ≡ older_verdict old.now }
 {

@@ -24,6 +24,7 @@ pub fn convert(old: &[u8], table: &mut [u8]) -> Result<usize, Refusal>
 }
 
 // The buffer's length is asked before anything is written.
+// Stays: beside the end of `build`, since one function for both would promise a third definition beside `built` and `conversion`.
 fn converted(old: &[u8], table: &mut [u8]) -> Result<usize, Refusal>
     requires { older_verdict old.now ≡ Ok tt }
     ensures { filled_by result table.new ≡ conversion old.now table.old }

@@ -99,7 +99,7 @@ pub fn runs_legal<F: Fn(&[u8]) -> bool>(runs: &[u8], size: usize, count: usize, 
     true
 }
 
-// The NR CGI of the cell or head from an index on. The builder and the converter ask this too.
+// The NR CGI of the cell or head from an index on.
 pub fn identity_at(runs: &[u8], at: usize) -> CellIdentity
     requires { at + head_size current ≤ length runs.now }
     ensures { identity_number result ≡ identity_at current (drop at runs.now) }
@@ -236,6 +236,7 @@ fn live_legal(place: &[u8]) -> bool
 }
 
 // The place that 24 bytes say.
+// Stays: a function and no From, which has no `requires` and would be of two types that are not this crate's.
 fn place_of(place: &[u8]) -> Place
     requires { length place.now ≡ place_size current }
     ensures { result ≡ place_of current place.now }

@@ -169,6 +169,7 @@ fn notification(part: &[u8]) -> Option<Heard>
 // ---- by its id
 
 // What only a cancel request has.
+// Stays: tests in a row, since with `match id` nothing says in the last arm that the id is none of the three, and `Unknown` is not proved.
 fn further(id: u16, part: &[u8]) -> Option<Heard>
     ensures { Tells (contents_by CancelRequest (further_name CancelRequest id)) part.now result }
 {

@@ -24,6 +24,8 @@ struct Grade {
 }
 
 // An entry of the list: where it ends, whether something in it is marked reject, whether it is not a cell's, and its cell's number.
+// Stays: 0 as the number of an entry that is not a cell's: where it is said whether cells ascend it counts as 0 (`number_of_entry`), so that
+// `Option<u64>` would be taken apart with `unwrap_or(0)` at its only use.
 #[derive(Clone, Copy)]
 struct Listed {
     end: usize,
@@ -60,7 +62,8 @@ fn item_grade(m: Message, s: &[u8]) -> Option<Grade>
 }
 
 // An item as most are, without extensions: its id, its length and its padding are seen at once. Of anything else nothing is said.
-// Stays: `plain` beside the message that says it. Computed for each item, a response of 512 cells took 15,009 instructions to read in place of 13,470.
+// Stays: `plain` beside the message that says it. Computed for each item, a trial of the reader alone took 15,009 instructions for 13,470 over 512
+// cells.
 fn plain_item(m: Message, plain: u32, s: &[u8], at: usize) -> bool
     requires head_of_items { plain ≡ plain_head m }
     requires at_in_bounds { at ≤ length s.now }

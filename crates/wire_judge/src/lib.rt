@@ -23,6 +23,8 @@ use wire::{Heard, Message, hear};
 // What was seen in the elements so far: whether something is marked reject, whether an item of the list is missing, whether its cells ascend, whether the
 // known elements are in order, the last of them, whether the two mandatory ones are there; what they said; where the list of cells begins and ends, both 0
 // without one. Wide fields come first, and the numbers are as wide as leaves no byte between two fields or behind the last: such bytes are moved along too.
+// Stays: flags beside what they are of, and 0 for no list: an Option's tags would leave bytes between the fields, which is a fifth of a short
+// message's time (docs/PROVING.md, "Which bytes a struct moves"); `start..end` is then the empty part, as a list that is not there is read.
 #[derive(Clone, Copy)]
 pub struct Seen {
     pub start: usize,
@@ -85,6 +87,7 @@ pub trait Kept: Copy {
 
 impl Seen {
     // A known element, in the order of their ids.
+    // Stays: this and `past` as in Met: over both, Kept would ask for a getter and a setter of `ordered`, `last` and `rejects`, six for these two.
     #[tactic(auto, unfolding(crate::specs::Readers::in_turn))]
     fn in_turn(self, id: u16) -> Seen
         ensures { result ≡ in_turn self id }

@@ -4,6 +4,7 @@ use mathlib.Core.Path.{◌≡◌, refl, sym, ◌∙◌}
 use native.Mathlib.Omega.{arith}
 use lib.ListN.{length, take}
 use lib.Seq.{length-take-le}
+use Rattle.rules.specs.Refusals.{number_of}
 use Rattle.report_turns.specs.Report.{table_size}
 use Rattle.report_turns.proofs.RoomLaws.{room_within}
 use Rattle.report_turns.proofs.OpenLaws.{written-if, refused_stepped, made_stepped}
@@ -20,11 +21,10 @@ slice_bounds-build-end-2 c = sym (part-long (goal.at.slice_bounds-build-end-2 c)
 pub returns-in-Err : goal.returns-in-Err
 returns-in-Err c =
     let told = c.refuse in
-    let number = c.number in
     let x = c.build in
     let a = c.args in
     λ lent room. refused_stepped a.cells a.heads.now a.table.now lent x.new.table a.text.now x.result x.ensures
-    c.in-Err.refusal number.result told.result told.new.text c.in-Err.is number.ensures
+    c.in-Err.refusal (number_of c.in-Err.refusal) told.result told.new.text c.in-Err.is refl
     (told.ensures (record { cells = None; table = a.table.now; answer = lent }) refl)
 
 pub returns : goal.returns
