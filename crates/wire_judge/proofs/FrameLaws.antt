@@ -26,7 +26,8 @@ use Rattle.wire.specs.Messages.{choice_of, code_of, frame_id}
 use Rattle.wire.specs.Frame.{Frame, code_size, frame_criticality, frame_under, frame, outer}
 use Rattle.wire.specs.declared.Message.{Message}
 use Rattle.wire.specs.declared.Message.TheVariants.{CancelRequest, CancelResponse, WriteReplaceResponse}
-use Rattle.wire_judge.specs.Readers.{is_own, NotOwn, ours, FramedBy, FramedAs}
+use Rattle.wire_judge.specs.Readers.{is_own, NotOwn, outside_of, Outside, ours, FramedBy, FramedAs}
+use Rattle.rules.specs.declared.Refusal.{Refusal}
 use Rattle.rules.specs.declared.Refusal.TheVariants.{BadEncoding, OtherMessage}
 
 -- ---- behind an id: a criticality and an open type
@@ -91,7 +92,7 @@ module _ (m : Message) (l : List ℕ) (at choice code : ℕ) (framed : outer.par
   none : nothing ≡ all_of (summed (ours m) (outer.parse l)) [] → FramedAs m l (Err BadEncoding)
   none e = subst (FramedBy l (Err BadEncoding)) e refl
 
-  pub frame-none : ElementAt l at None → FramedAs m l (Err BadEncoding)
+  frame-none : ElementAt l at None → FramedAs m l (Err BadEncoding)
   frame-none read = none (answers nothing (framed ∙ ap (λ (x : Found (Element (List ℕ))). after x (framed_as choice code)) (sym read.says)))
 
   module _ (id criticality start end : ℕ) (read : ElementAt l at (Some (record { id = id; criticality = criticality; start = start; end = end }))) where
@@ -99,14 +100,14 @@ module _ (m : Message) (l : List ℕ) (at choice code : ℕ) (framed : outer.par
     unfolding framed_as
     this = framed ∙ ap (λ (x : Found (Element (List ℕ))). after x (framed_as choice code)) (sym read.says)
 
-    pub frame-criticality : 3 ≤ criticality → FramedAs m l (Err BadEncoding)
+    frame-criticality : 3 ≤ criticality → FramedAs m l (Err BadEncoding)
     frame-criticality h = none (answers nothing (this ∙ rw (le-ltb criticality 3 h)))
 
     module _ (small : criticality < 3) where
       there : outer.parse l ≡ found (frame_by choice code criticality (take (end - start) (drop start l))) (drop end l)
       there = this ∙ rw (lt-ltb criticality 3 small)
 
-      pub frame-behind : (end ≡ length l → ⊥) → FramedAs m l (Err BadEncoding)
+      frame-behind : (end ≡ length l → ⊥) → FramedAs m l (Err BadEncoding)
       frame-behind other =
           let more : end < length l = omega (arith, other, read.lies.1) in
           none (rw (drop-cons l end 0 more) at (answers (found (frame_by choice code criticality (take (end - start) (drop start l))) (drop end l)) there))
@@ -122,10 +123,24 @@ module _ (m : Message) (l : List ℕ) (at choice code : ℕ) (framed : outer.par
         frame-ours p q =
             (rw (eq-eqb choice (choice_of m) p, eq-eqb code (code_of m) q) at (answers (found (frame_by choice code criticality (drop start l)) []) whole), omega (arith, read.lies.2))
 
-        pub frame-other : (eqb choice (choice_of m) && eqb code (code_of m)) ≡ false → FramedAs m l (Err OtherMessage)
+        frame-other : (eqb choice (choice_of m) && eqb code (code_of m)) ≡ false → FramedAs m l (Err OtherMessage)
         frame-other t =
             let other : found [] [] ≡ all_of (summed (ours m) (outer.parse l)) [] = rw t at (answers (found (frame_by choice code criticality (drop start l)) []) whole) in
             subst (FramedBy l (Err OtherMessage)) other (refl, refl)
+
+-- what is outside our messages, if an element that is all of the frame is not the message's own
+pub frame-outside : (m : Message) (l : List ℕ) (at choice code : ℕ) → outer.parse l ≡ after (plain.parse (drop at l)) (framed_as choice code) → (r : Refusal) → (out : Outside l at r)
+    → ((e : Placed) → ElementAt l at (Some e) → e.criticality < 3 → e.end ≡ length l → (eqb choice (choice_of m) && eqb code (code_of m)) ≡ false) → FramedAs m l (Err r)
+frame-outside m l at choice code framed r out other = subst (λ (x : Refusal). FramedAs m l (Err x)) (sym out.says) (by out.read out.there)
+  where
+    by : (x : Option Placed) → ElementAt l at x → FramedAs m l (Err (outside_of (length l) x))
+    by None read = frame-none m l at choice code framed read
+    by (Some e) read =
+        by_test (ltb e.criticality 3)
+        (λ t. by_test (eqb e.end (length l))
+        (λ u. rw (t, u) (frame-other m l at choice code framed e.id e.criticality e.start e.end read (ltb-true e.criticality 3 t) (eqb-true e.end (length l) u) (other e read (ltb-true e.criticality 3 t) (eqb-true e.end (length l) u))))
+        (λ u. rw (t, u) (frame-behind m l at choice code framed e.id e.criticality e.start e.end read (ltb-true e.criticality 3 t) (eqb-false e.end (length l) u))))
+        (λ t. rw t (frame-criticality m l at choice code framed e.id e.criticality e.start e.end read (ltb-false e.criticality 3 t)))
 
 -- ---- the choice
 

@@ -35,6 +35,16 @@ is_own m size None = false
 abbrev pub NotOwn : Message → List ℕ → Type 0
 NotOwn m l = (x : Option Placed) → ElementAt l 0 x → is_own m (length l) x ≡ false
 
+-- from an index on, an element with a criticality and nothing behind it, or not
+abbrev pub outside_of : (size : ℕ) → Option Placed → Refusal
+outside_of size (Some e) = cond (ltb e.criticality criticalities && eqb e.end size) OtherMessage BadEncoding
+outside_of size None = BadEncoding
+
+pub record Outside (l : List ℕ) (at : ℕ) (r : Refusal) : Type 0 where
+  pub read : Option Placed
+  pub there : ElementAt l at read
+  pub says : r ≡ outside_of (length l) read
+
 abbrev pub ours : Message → Frame (List ℕ) → List (List ℕ)
 ours m f = cond (is_of m f) (f.value ∷ []) []
 

@@ -1,6 +1,6 @@
 // The frame around a message.
 ghost use Rattle.std.specs.Prelude.{◌≡◌, Err, ◌≤◌, length};
-ghost use Rattle.wire_judge.specs.Readers.{Extended, NotOwn, FramedAs};
+ghost use Rattle.wire_judge.specs.Readers.{Extended, NotOwn, Outside, FramedAs};
 
 use aper::{Criticality, element_at};
 use octets::get;
@@ -10,13 +10,12 @@ use wire::Message;
 // Choice-extension, whose id has two bytes; of the other choices the procedure code has one, so that choice and code stand where an element has its id.
 const CHOICE_EXTENSION: u8 = 192;
 
-// What follows the choice is an element; none of our messages is framed so.
-fn extension_frame(m: Message, s: &[u8]) -> Refusal
-    requires in_bounds { 1 ≤ length s.now }
-    requires extended { Extended s.now }
-    ensures { FramedAs m s.now (Err result) }
+// What stands from an index on is no message of ours: another's, if it is an element with a criticality and nothing behind it, else none.
+fn outside<const AT: usize>(s: &[u8]) -> Refusal
+    requires { AT ≤ length s.now }
+    ensures { Outside s.now AT result }
 {
-    match element_at(s, 1) {
+    match element_at(s, AT) {
         None => Refusal::BadEncoding,
         Some(element) => {
             if Criticality::try_from(element.criticality).is_err() {
@@ -28,6 +27,15 @@ fn extension_frame(m: Message, s: &[u8]) -> Refusal
             Refusal::OtherMessage
         }
     }
+}
+
+// What follows the choice is an element; none of our messages is framed so.
+fn extension_frame(m: Message, s: &[u8]) -> Refusal
+    requires in_bounds { 1 ≤ length s.now }
+    requires extended { Extended s.now }
+    ensures { FramedAs m s.now (Err result) }
+{
+    outside::<1>(s)
 }
 
 // Why a frame is not the message's own: it is another message's, or none.
@@ -45,18 +53,7 @@ fn other_frame(m: Message, s: &[u8]) -> Refusal
     if choice == CHOICE_EXTENSION {
         return extension_frame(m, s);
     }
-    match element_at(s, 0) {
-        None => Refusal::BadEncoding,
-        Some(element) => {
-            if Criticality::try_from(element.criticality).is_err() {
-                return Refusal::BadEncoding;
-            }
-            if element.end != s.len() {
-                return Refusal::BadEncoding;
-            }
-            Refusal::OtherMessage
-        }
-    }
+    outside::<0>(s)
 }
 
 // Where the message begins behind its frame. Its own frame is seen at once, and this much is compiled into each caller; anything else takes the closer look.
