@@ -8,6 +8,8 @@ use native.Mathlib.Nat.{add-zero}
 use native.Mathlib.Omega.{arith}
 use borrow.Author.Tests.{ne_eqb}
 use lib.Dec.{eqb}
+use Rattle.std.specs.Prelude.{Option, None, Some}
+use Rattle.std.specs.Option.{option_eq}
 use lib.ListN.{length, take, drop, length-drop}
 use lib.Seq.{length-take-le}
 use Rattle.octets.specs.Runs.{Bytes, gets, pieces}
@@ -22,14 +24,14 @@ use Rattle.rules.proofs.AllLaws.{all_pieces}
 use Rattle.table_judge.specs.Judge.{legal_live}
 use Rattle.octets.proofs.PiecesLaws.{pieces_more, pieces_none}
 use Rattle.table_judge.proofs.PassedLaws.{text_at_lem}
-use Rattle.table_judge.proofs.WalkLaws.{live_byte, no_text, walk, walk-starts}
+use Rattle.table_judge.proofs.WalkLaws.{live_byte, walk, walk-starts}
 
-pub record PlacesLeft (l : List ℕ) (at left x y z : ℕ) : Type 0 where
+pub record PlacesLeft (l : List ℕ) (at left : ℕ) (x y z : Option ℕ) : Type 0 where
   pub few : left ≤ places_per_cell
   pub fits : at + place_size current * left ≡ length l
   pub rest : legal_places current (pieces (place_size current) places_per_cell l) ≡ walk x y z (pieces (place_size current) left (drop at l))
 
-pub places-start : (l : List ℕ) → Bytes l → length l ≡ place_size current * places_per_cell → PlacesLeft l 0 places_per_cell no_text no_text no_text
+pub places-start : (l : List ℕ) → Bytes l → length l ≡ place_size current * places_per_cell → PlacesLeft l 0 places_per_cell None None None
 places-start l h n =
     record {
       few = omega arith;
@@ -37,11 +39,11 @@ places-start l h n =
       rest = walk-starts l (all_pieces (place_size current) places_per_cell l h (omega arith));
     }
 
-pub places-end : {l : List ℕ} {at left x y z : ℕ} → PlacesLeft l at left x y z → left ≤ 0 → legal_places current (pieces (place_size current) places_per_cell l) ≡ true
+pub places-end : {l : List ℕ} {at left : ℕ} {x y z : Option ℕ} → PlacesLeft l at left x y z → left ≤ 0 → legal_places current (pieces (place_size current) places_per_cell l) ≡ true
 unfolding walk
 places-end {l} {at} {left} p h = p.rest ∙ rw (pieces_none (place_size current) left (drop at l) h)
 
-module _ {l : List ℕ} {at left x y z : ℕ} (p : PlacesLeft l at left x y z) (h : 0 < left) where
+module _ {l : List ℕ} {at left : ℕ} {x y z : Option ℕ} (p : PlacesLeft l at left x y z) (h : 0 < left) where
   here : at + 24 ≤ length l
   here = let f = p.fits in omega arith
 
@@ -62,16 +64,16 @@ module _ {l : List ℕ} {at left x y z : ℕ} (p : PlacesLeft l at left x y z) (
 
     module _ (n : v ≡ 0 → ⊥) (t : ℕ) (et : t ≡ be (gets l at 4)) (r : Bool) (er : r ≡ legal_live (take (at + place_size current - at) (drop at l))) where
       turn : legal_places current (pieces (place_size current) places_per_cell l)
-          ≡ r && not (eqb t x) && not (eqb t y) && not (eqb t z) && walk t x y (pieces (place_size current) (left - 1) (drop (at + place_size current) l))
+          ≡ r && not (option_eq eqb (Some t) x) && not (option_eq eqb (Some t) y) && not (option_eq eqb (Some t) z) && walk (Some t) x y (pieces (place_size current) (left - 1) (drop (at + place_size current) l))
       unfolding walk
       turn =
           let k : at + place_size current - at ≡ place_size current = omega arith in
           p.rest ∙ rw (pieces_more (place_size current) left at l h, ← live_here, ← ev, ne_eqb v 0 n, ← text_here, ← et, er, k)
 
-      pub places-wrong : (r && not (eqb t x) && not (eqb t y) && not (eqb t z)) ≡ false → legal_places current (pieces (place_size current) places_per_cell l) ≡ false
+      pub places-wrong : (r && not (option_eq eqb (Some t) x) && not (option_eq eqb (Some t) y) && not (option_eq eqb (Some t) z)) ≡ false → legal_places current (pieces (place_size current) places_per_cell l) ≡ false
       places-wrong e = turn ∙ rw e
 
-      pub places_on : (r && not (eqb t x) && not (eqb t y) && not (eqb t z)) ≡ true → {next fewer : ℕ} → next ≡ at + place_size current → fewer ≡ left - 1 → PlacesLeft l next fewer t x y
+      pub places_on : (r && not (option_eq eqb (Some t) x) && not (option_eq eqb (Some t) y) && not (option_eq eqb (Some t) z)) ≡ true → {next fewer : ℕ} → next ≡ at + place_size current → fewer ≡ left - 1 → PlacesLeft l next fewer (Some t) x y
       places_on e n m =
           let few = p.few in
           let fits = p.fits in

@@ -27,9 +27,6 @@ const THIRD_AREA_AT: usize = AREAS_AT + 2 * AREA;
 
 const LAST_FOUR_AT: usize = HEAD - u32::BYTES;
 
-// Above every identifier with its serial number: stands where there is none.
-const NO_TEXT: u64 = 1 << 32;
-
 // Any bytes: accepted, or document 01's refusal 1 or 2.
 pub fn verdict(table: &[u8]) -> Result<(), Refusal>
     ensures { result ≡ table_verdict current table.now }
@@ -174,15 +171,15 @@ pub fn places_legal(places: &[u8]) -> bool
     requires { length places.now ≡ place_size current * places_per_cell }
     ensures { result ≡ legal_places current (pieces (place_size current) places_per_cell places.now) }
 {
-    let mut a = NO_TEXT;
-    let mut b = NO_TEXT;
-    let mut c = NO_TEXT;
+    let mut a: Option<u32> = None;
+    let mut b: Option<u32> = None;
+    let mut c: Option<u32> = None;
     for k in 0..PLACES {
         let at = PLACE * k;
         if get::<u8>(places, at + LIVE_AT) == 0 {
             return all_free(places, at, PLACES - k);
         }
-        let text = get::<u32>(places, at) as u64;
+        let text = Some(get::<u32>(places, at));
         if !(live_legal(&places[at..at + PLACE]) & (text != a) & (text != b) & (text != c)) {
             return false;
         }

@@ -13,13 +13,13 @@ returns-then-get-eq0 c =
     c.all_free.ensures
     ∙ sym (places-free c.loop-k.invariant (omega (arith, c.loop-k-test.true)) _ c.get.ensures c.if-get-eq0.true)
 
-pub returns-then-not-live_legal-text : goal.returns-then-not-live_legal-text
-returns-then-not-live_legal-text c =
-    sym (places-wrong c.loop-k.invariant (omega (arith, c.loop-k-test.true)) _ c.get.ensures c.if-get-eq0.false _ c.get-text.ensures _ c.live_legal.ensures c.if-not-live_legal-text.true)
+pub returns-then-not-live_legal-ne : goal.returns-then-not-live_legal-ne
+returns-then-not-live_legal-ne c =
+    sym (places-wrong c.loop-k.invariant (omega (arith, c.loop-k-test.true)) _ c.get.ensures c.if-get-eq0.false _ c.get-in-loop-k.ensures _ c.live_legal.ensures (rw (← c.ne.ensures, ← c.ne-in-loop-k.ensures, ← c.ne-in-loop-k-2.ensures) c.if-not-live_legal-ne.true))
 
 pub loop-k-preserved : goal.loop-k-preserved
 loop-k-preserved c =
-    places_on c.loop-k.invariant (omega (arith, c.loop-k-test.true)) _ c.get.ensures c.if-get-eq0.false _ c.get-text.ensures _ c.live_legal.ensures c.if-not-live_legal-text.false
+    places_on c.loop-k.invariant (omega (arith, c.loop-k-test.true)) _ c.get.ensures c.if-get-eq0.false _ c.get-in-loop-k.ensures _ c.live_legal.ensures (rw (← c.ne.ensures, ← c.ne-in-loop-k.ensures, ← c.ne-in-loop-k-2.ensures) c.if-not-live_legal-ne.false)
     (omega arith) (omega arith)
 
 pub returns : goal.returns
