@@ -19,6 +19,8 @@ pub struct Naming {
     pub turned: [u64; 4],
 }
 
+// Stays: each key turned by itself. Of `all.map(turned64)` it is known that a call gave each (`IsMapOf`), and that these are the keys turned was
+// not proved.
 fn keyed(keys: u8, all: [u64; 4]) -> Naming
     ensures turned { result ≡ turned_keys keys all }
     ensures meant { (x : ℕ) → named_by result x ≡ one_of x (take keys all) }

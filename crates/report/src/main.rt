@@ -88,6 +88,7 @@ fn read_on(rt: HostRuntime, s: Stand, input: &mut [u8]) -> Stand
 // ---- turn after turn
 
 // One turn, and what it asks for: its text is written before a read may have to wait.
+// Stays: the buffers one by one, here and in `run`, as `turn` of report_turns is promised of them (docs/PROMISES.md).
 fn step(
     rt: HostRuntime,
     s: Stand,

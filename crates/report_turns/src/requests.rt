@@ -12,6 +12,7 @@ use rules::kind::ONE_SECOND;
 use rules::layout::{CELL, HEADER};
 
 // What lies behind the parts that a table of so many cells asks for stays as it is.
+// Stays: table and answer one by one, as in `one_turn`.
 pub fn serve_next(
     held: Held,
     cells: usize,

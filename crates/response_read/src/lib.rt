@@ -23,6 +23,7 @@ use wire_judge::Judged;
 
 // ---- the answer
 
+// Stays: a function and no From, since both of its types are other crates'.
 fn kind_answered(m: Message) -> u8
     ensures { result ≡ kind_answered m }
 {
@@ -81,6 +82,7 @@ fn put_answer(m: Message, elements: &[u8], met: Met, answer: &mut [u8]) -> Resul
 // ---- all of it
 
 // The response that the frame says; any other message is judged as a PWS CANCEL RESPONSE.
+// Stays: a function and no From, since both of its types are other crates'.
 fn meant(message: &[u8]) -> Message
     ensures { result ≡ meant_by message.now }
 {

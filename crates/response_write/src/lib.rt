@@ -182,6 +182,7 @@ impl Response {
 // ---- all of it
 
 // The response that answers a request of this kind.
+// Stays: a function and no From, since both of its types are other crates'.
 fn answering(kind: u8) -> Message
     ensures { result ≡ response_by (kind == cancel_or_kill) }
 {

@@ -39,6 +39,7 @@ pub fn starts_nothing(request: Request) -> bool
 }
 
 // A primary goes out every second until it is stopped, whatever period and count it came with.
+// Stays: a function and no From, since both of its types are other crates'.
 fn new_place(request: Request) -> Place
     ensures { result ≡ new_place request }
 {

@@ -42,6 +42,7 @@ impl Form for Item {
     ghost sized = { item-sized };
 }
 
+// Stays: this and the next two as functions and no From, since the types are numbers or other crates'.
 fn flags_of(all: bool, noted: bool) -> u8
     ensures { result ≡ flags_of all noted }
 {
