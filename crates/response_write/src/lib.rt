@@ -145,8 +145,10 @@ impl Response {
         requires rows_of { RowsOf answer.now self.rows }
         ensures { message.new ≡ sets message.old at (flat_map (item_bytes self.m) (rows_in answer.now self.rows)) }
     {
+        let mut to = at;
         for k in 0..self.rows {
-            self.put_item(message, at + self.item_size() * k, row_at(answer, k));
+            self.put_item(message, to, row_at(answer, k));
+            to += self.item_size();
         }
     }
 
