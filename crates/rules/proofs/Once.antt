@@ -13,8 +13,8 @@ use Rattle.rules.proofs.Request.text.Reads as text
 use Rattle.rules.proofs.CellIdentity.new.Reads as new
 use Rattle.rules.proofs.CellIdentity.plmn.Reads as plmn
 use Rattle.rules.proofs.CellIdentity.part.Reads as part
+use Rattle.rules.proofs.CellIdentity.below.Reads as below
 use Rattle.rules.proofs.CellIdentity.next.Reads as next
-use Rattle.rules.proofs.CellIdentityPartialOrd.partial_cmp.Reads as partial_cmp_lem
 use Rattle.rules.proofs.CellIdentity.cell_item.Reads as cell_item_lem
 use Rattle.rules.proofs.CellIdentity.tracking_item.Reads as tracking_item_lem
 
@@ -48,8 +48,7 @@ plmn_once κ args r s e f = one-outcome
 pub part_once : SettlesResult part.Learnt
 part_once κ args r s e f = one-outcome
 
--- of two identities, of which the derived order says whether one is below the other
-pub below_once : SettlesResult partial_cmp_lem.Learnt
+pub below_once : SettlesResult below.Learnt
 below_once κ args r s e f = one-outcome
 
 pub next_once : SettlesResult next.Learnt
