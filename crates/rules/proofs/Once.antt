@@ -15,6 +15,7 @@ use Rattle.rules.proofs.CellIdentity.plmn.Reads as plmn
 use Rattle.rules.proofs.CellIdentity.part.Reads as part
 use Rattle.rules.proofs.CellIdentity.below.Reads as below
 use Rattle.rules.proofs.CellIdentity.next.Reads as next
+use Rattle.rules.proofs.CellIdentityPartialOrd.partial_cmp.Reads as partial_cmp_lem
 use Rattle.rules.proofs.CellIdentity.cell_item.Reads as cell_item_lem
 use Rattle.rules.proofs.CellIdentity.tracking_item.Reads as tracking_item_lem
 
@@ -50,6 +51,10 @@ part_once κ args r s e f = one-outcome
 
 pub below_once : SettlesResult below.Learnt
 below_once κ args r s e f = one-outcome
+
+-- how two identities stand to each other
+pub order_once : SettlesResult partial_cmp_lem.Learnt
+order_once κ args r s e f = one-outcome
 
 pub next_once : SettlesResult next.Learnt
 next_once κ args r s e f p q = ap (λ (n : ℕ). record { 0 = n }) (one-outcome p q)
