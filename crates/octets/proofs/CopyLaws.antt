@@ -1,22 +1,21 @@
 -- Bytes copied one by one, or sixteen at a time, of which the last sixteen may be stored over some of those before them.
 -- Stores one behind the other are one store (`sets-run`), and one over another is the later of both (`sets-sets`).
 use mathlib.Core.Path.{◌≡◌, refl, sym, ap, ◌∙◌}
-use mathlib.Core.List.{List, [], ◌∷◌, ◌++◌}
+use mathlib.Core.List.{List, ◌++◌}
 use Prim.Native.Nat.{ℕ, ◌+◌, ◌-◌, ◌<◌, ◌≤◌}
 use native.Mathlib.Omega.{arith}
-use native.Mathlib.Numerals.{add-one}
 use lib.ListN.{length, take, drop, set, get_or, length-set, length-drop}
-use lib.Seq.{sets, length-sets, length-take-le, take_all, take-add, take-suc}
+use lib.Seq.{sets, length-sets, length-take-le, take_all, take-add}
 use Rattle.octets.specs.Runs.{gets, Bytes}
 use Rattle.octets.specs.Numbers.{be, to_be}
-use Rattle.octets.proofs.RunsLaws.{gets_eq, gets_run, length-gets, bytes-gets, sets-run, sets-sets}
+use Rattle.octets.proofs.RunsLaws.{gets_eq, gets_run, length-gets, sets-run, sets-sets, sets_more}
 use Rattle.octets.proofs.NumbersLaws.{to_be-gets}
 
 -- ---- sixteen bytes
 
-pub copied_wide : (to from : List ℕ) {mid to' : List ℕ} {front back : ℕ} (at i : ℕ) → Bytes from → front ≡ be (gets from i 8) → back ≡ be (gets from (i + 8) 8)
+pub copied_16 : (to from : List ℕ) {mid to' : List ℕ} {front back : ℕ} (at i : ℕ) → Bytes from → front ≡ be (gets from i 8) → back ≡ be (gets from (i + 8) 8)
     → mid ≡ sets to at (to_be 8 front) → to' ≡ sets mid (at + 8) (to_be 8 back) → to' ≡ sets to at (gets from i 16)
-copied_wide to from at i bytes f b e e' =
+copied_16 to from at i bytes f b e e' =
     rw (e', e, f, b, to_be-gets 8 from i bytes, to_be-gets 8 from (i + 8) bytes)
     (sets-run (gets from i 8) (gets from (i + 8) 8) to at (at + 8) (rw length-gets) ∙ ap (sets to at) (gets_run 8 from i (i + 8) 8 refl))
 
@@ -47,8 +46,7 @@ module _ {to₀ : List ℕ} {at : ℕ} {from to : List ℕ} {i : ℕ} (g : Copyi
       record {
         within = omega arith;
         long = length-set to (at + i) (get_or from i 0) ∙ g.long;
-        stored = rw (g.stored, add-one i, take-suc from i 0 more)
-            (sets-run (take i from) (get_or from i 0 ∷ []) to₀ at (at + i) (rw (length-take-le i from (omega arith))));
+        stored = rw g.stored (sets_more to₀ from at i more);
       }
 
   pub copying_all : length from ≤ i → to ≡ sets to₀ at from

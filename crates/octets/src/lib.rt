@@ -68,7 +68,7 @@ pub fn put<N: Number>(s: &mut [u8], at: usize, x: N)
 const WIDE: usize = 16;
 
 // Both numbers are read before one is written, so the compiler makes one wide move of them, and turns no byte.
-fn copy_wide(to: &mut [u8], at: usize, from: &[u8], i: usize)
+fn copy16(to: &mut [u8], at: usize, from: &[u8], i: usize)
     requires { (at + 16 ≤ length to.old) × (i + 16 ≤ length from.now) }
     ensures { to.new ≡ sets to.old at (gets from.now i 16) }
 {
@@ -102,7 +102,7 @@ pub fn copy(to: &mut [u8], at: usize, from: &[u8])
     }
     let last = from.len() - WIDE;
     for k in 0..last.div_ceil(WIDE) {
-        copy_wide(to, at + WIDE * k, from, WIDE * k);
+        copy16(to, at + WIDE * k, from, WIDE * k);
     }
-    copy_wide(to, at + last, from, last);
+    copy16(to, at + last, from, last);
 }
