@@ -7,12 +7,13 @@ use Prim.Native.Nat.{ℕ, suc, ◌+◌, ◌<◌, ◌≤◌}
 use native.Mathlib.Numerals.{add-one}
 use native.Mathlib.Omega.{arith}
 use borrow.Author.Tests.{eq-eqb, ne_eqb, ltb-true, ltb-false}
-use lib.Dec.{ltb}
+use lib.Dec.{eqb, ltb}
 use lib.ListN.{length, drop, drop_of_length-le}
 use lib.Seq.{drop-cons}
 use Rattle.rules.specs.Layout.{places_per_cell}
 use Rattle.rules.specs.Table.{text_of}
 use Rattle.rules.specs.declared.Place.{Place}
+use Rattle.rules.proofs.TestLaws.{cond_either}
 use Rattle.cell_read.specs.Places.{live_places, no_place, place_at, index_of}
 use Rattle.cell_read.proofs.PlacesLaws.{live-few}
 
@@ -68,3 +69,11 @@ module _ (c : List ℕ) (text k : ℕ) (s : Seeking text (live_places c) k) wher
         let on : index_of text (drop k (live_places c)) ≡ suc (index_of text (drop (suc k) (live_places c))) =
         ap (index_of text) next ∙ index_on text (place_at c k) (drop (suc k) (live_places c)) n in
         record { few = omega arith; left = rw (add-one k) (omega (arith, s.left)) }
+
+-- ---- what the number that is found says
+
+pub index-few : (text : ℕ) (ps : List Place) → index_of text ps ≤ length ps
+unfolding index_of
+index-few text [] = omega arith
+index-few text (p ∷ ps) =
+    cond_either (λ n. n ≤ suc (length ps)) (eqb (text_of p) text) 0 (suc (index_of text ps)) (λ t. omega arith) (λ t. omega (arith, index-few text ps))

@@ -15,12 +15,12 @@ use Rattle.octets.specs.Numbers.{be, to_be}
 use Rattle.octets.specs.Turned.{le, turned}
 use Rattle.octets.proofs.NumbersLaws.{length-to_be, bytes-to_be, be-to_be, to_be_add}
 
-le_append : (us vs : List ℕ) → le (us ++ vs) ≡ le us + 256 ^ length us * le vs
+pub le_append : (us vs : List ℕ) → le (us ++ vs) ≡ le us + 256 ^ length us * le vs
 unfolding le
 le_append [] vs = omega arith
 le_append (u ∷ us) vs = rw (le_append us vs, pow-succ') (simp (mul-add, mul_assoc, add_assoc))
 
-le_lt : (bs : List ℕ) → Bytes bs → le bs < 256 ^ length bs
+pub le_lt : (bs : List ℕ) → Bytes bs → le bs < 256 ^ length bs
 unfolding le
 le_lt [] h = omega arith
 le_lt (b ∷ bs) h =
@@ -33,7 +33,7 @@ unfolding turned
 turned_lt w v h = rw length-to_be at (le_lt (to_be w v) (bytes-to_be w v h))
 
 -- each part turned, and the parts in the other order
-turned-run : (u w v : ℕ) → v < 256 ^ (u + w) → turned w (v % 256 ^ w) * 256 ^ u + turned u (v / 256 ^ w) ≡ turned (u + w) v
+pub turned-run : (u w v : ℕ) → v < 256 ^ (u + w) → turned w (v % 256 ^ w) * 256 ^ u + turned u (v / 256 ^ w) ≡ turned (u + w) v
 unfolding turned
 turned-run u w v h =
     rw (← to_be_add u w v h, le_append, length-to_be, mul_comm (256 ^ u), add_comm (le (to_be u (v / 256 ^ w))))
@@ -47,7 +47,7 @@ unfolding turned le to_be
 turned-one v = rw div-one (omega arith)
 
 -- what bytes say least significant first, turned, is what they say most significant first
-turned_le : (bs : List ℕ) → Bytes bs → turned (length bs) (le bs) ≡ be bs
+pub turned_le : (bs : List ℕ) → Bytes bs → turned (length bs) (le bs) ≡ be bs
 unfolding le be
 turned_le [] h = turned_none
 turned_le (b ∷ bs) h =

@@ -64,10 +64,45 @@ pub fn put<N: Number>(s: &mut [u8], at: usize, x: N)
     x.write(&mut s[at..at + N::BYTES]);
 }
 
-// All of `from`, stored from an index on; every other byte stays.
+// So many bytes are moved at once.
+const WIDE: usize = 16;
+
+// Both numbers are read before one is written, so the compiler makes one wide move of them, and turns no byte.
+fn copy16(to: &mut [u8], at: usize, from: &[u8], i: usize)
+    requires { (at + 16 ≤ length to.old) × (i + 16 ≤ length from.now) }
+    ensures { to.new ≡ sets to.old at (gets from.now i 16) }
+{
+    let front: u64 = get(from, i);
+    let back: u64 = get(from, i + u64::BYTES);
+    put(to, at, front);
+    put(to, at + u64::BYTES, back);
+}
+
+// All of `from`, byte by byte.
+fn copy_bytes(to: &mut [u8], at: usize, from: &[u8])
+    requires { at + length from.now ≤ length to.old }
+    ensures { to.new ≡ sets to.old at from.now }
+{
+    for i in 0..from.len() {
+        to[at + i] = from[i];
+    }
+}
+
+// All of `from`, stored from an index on; every other byte stays. Sixteen bytes a turn, and the last sixteen as they lie, over some of
+// those before them, so that no rest goes byte by byte.
+// Stays: a loop, since `copy_from_slice` of a length that only the call knows is a call of the C library's `memmove`, which the library for
+// C would have to be given, and with 63 segments without a byte that call took twice the time.
 pub fn copy(to: &mut [u8], at: usize, from: &[u8])
     requires { at + length from.now ≤ length to.old }
     ensures { to.new ≡ sets to.old at from.now }
 {
-    to[at..at + from.len()].copy_from_slice(from);
+    if from.len() < WIDE {
+        copy_bytes(to, at, from);
+        return;
+    }
+    let last = from.len() - WIDE;
+    for k in 0..last.div_ceil(WIDE) {
+        copy16(to, at + WIDE * k, from, WIDE * k);
+    }
+    copy16(to, at + last, from, last);
 }

@@ -13,6 +13,7 @@ use Rattle.rules.proofs.Request.text.Reads as text
 use Rattle.rules.proofs.CellIdentity.new.Reads as new
 use Rattle.rules.proofs.CellIdentity.plmn.Reads as plmn
 use Rattle.rules.proofs.CellIdentity.part.Reads as part
+use Rattle.rules.proofs.CellIdentity.below.Reads as below
 use Rattle.rules.proofs.CellIdentity.next.Reads as next
 use Rattle.rules.proofs.CellIdentityPartialOrd.partial_cmp.Reads as partial_cmp_lem
 use Rattle.rules.proofs.CellIdentity.cell_item.Reads as cell_item_lem
@@ -48,9 +49,12 @@ plmn_once κ args r s e f = one-outcome
 pub part_once : SettlesResult part.Learnt
 part_once κ args r s e f = one-outcome
 
--- of two identities, of which the derived order says whether one is below the other
-pub below_once : SettlesResult partial_cmp_lem.Learnt
+pub below_once : SettlesResult below.Learnt
 below_once κ args r s e f = one-outcome
+
+-- how two identities stand to each other
+pub order_once : SettlesResult partial_cmp_lem.Learnt
+order_once κ args r s e f = one-outcome
 
 pub next_once : SettlesResult next.Learnt
 next_once κ args r s e f p q = ap (λ (n : ℕ). record { 0 = n }) (one-outcome p q)

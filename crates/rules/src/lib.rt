@@ -1,7 +1,7 @@
 // Document 01's types. What they mean, and every rule about them, stands in specs/.
 #![tactic(auto)]
 
-ghost use Rattle.std.specs.Prelude.{◌≡◌, ◌+◌, ◌<◌};
+ghost use Rattle.std.specs.Prelude.{◌≡◌, ◌+◌, ◌<◌, ltb};
 ghost use Rattle.rules.specs.Layout.{cell_end};
 ghost use Rattle.rules.specs.Identity.{identity_number, identity_answer, plmn_of, part_of, cell_item, tracking_item};
 ghost use Rattle.rules.specs.Record.{cancel_all, concurrent, notified, text_asked};
@@ -164,6 +164,13 @@ impl CellIdentity {
         ensures { result ≡ part_of self.0 }
     {
         self.0 % PART_END
+    }
+
+    // By the derived order.
+    pub fn below(self, other: CellIdentity) -> bool
+        ensures { result ≡ ltb (identity_number self) (identity_number other) }
+    {
+        self < other
     }
 
     // The least that may follow, where cells ascend.

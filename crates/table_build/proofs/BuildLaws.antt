@@ -68,10 +68,11 @@ length-empty_run head e = rw (length-append, e)
 
 -- cells made one by one, each by f of a run of w bytes: t is what k of them left
 pub record CellsLeft (f : List ℕ → List ℕ) (w count : ℕ) (t₀ source t : List ℕ) (k : ℕ) : Type 0 where
+  pub long : length t ≡ length t₀
   pub same : sets t₀ header_size (flat_map f (pieces w count source)) ≡ sets t (header_size + cell_size current * k) (flat_map f (pieces w (count - k) (drop (w * k) source)))
 
 pub cells-start : (f : List ℕ → List ℕ) (w count : ℕ) (t₀ source : List ℕ) → CellsLeft f w count t₀ source t₀ 0
-cells-start f w count t₀ source = record { same = rw (mul-zero, sub-zero) }
+cells-start f w count t₀ source = record { long = refl; same = rw (mul-zero, sub-zero) }
 
 pub cells-end : {f : List ℕ → List ℕ} {w count : ℕ} {t₀ source t : List ℕ} {k : ℕ} → CellsLeft f w count t₀ source t k → count ≤ k
     → t ≡ sets t₀ header_size (flat_map f (pieces w count source))
@@ -99,5 +100,6 @@ module _ {f : List ℕ → List ℕ} {w count : ℕ} {t₀ source t : List ℕ} 
       let behind : header_size + cell_size current * (k + 1) ≡ at + cell_size current = omega arith in
       let made : new ≡ f (take w (drop (w * k) source)) = rw whole at en in
       record {
+        long = rw (stored, length-sets) p.long;
         same = p.same ∙ rw (stored, behind, pieces_more w (count - k) (w * k) source (omega arith), next, fewer, ← made, sets-run new _ t at (at + cell_size current) (rw sized));
       }

@@ -84,7 +84,7 @@ cell_widened wide cell room long {a} {z} p q =
 abbrev pub short_at : List ℕ → ℕ → Bool
 short_at cell k = leb (be (gets cell (24 + 20 * k + 8) 2)) 4095
 
-each-period : (cell : List ℕ) → length cell ≡ cell_size version1 → short_at cell 0 && short_at cell 1 && short_at cell 2 && short_at cell 3 ≡ short_periods cell
+pub each-period : (cell : List ℕ) → length cell ≡ cell_size version1 → short_at cell 0 && short_at cell 1 && short_at cell 2 && short_at cell 3 ≡ short_periods cell
 unfolding short_periods short_period every
 each-period cell long =
     let at : (i : ℕ) → field_of (place_fields version1) period_in_place (gets cell i (place_size version1)) ≡ be (gets cell (i + 8) 2) =

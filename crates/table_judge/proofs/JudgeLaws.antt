@@ -45,8 +45,11 @@ module _ (v : Version) where
     unfolding offset
     count n en = en ∙ sym (field_at header_fields cells_in_header t (omega (arith, header-long)))
 
+    pub table-size : (n : ℕ) → n ≡ be (gets t 5 2) → length t ≡ header_size + cell_size v * n
+    table-size n en = rw (count n en) (header-size t (sym h))
+
     pub runs-size : (n : ℕ) → n ≡ be (gets t 5 2) → length (take (length t - header_size) (drop header_size t)) ≡ cell_size v * n
-    runs-size n en = rw (take_rest, length-drop, count n en) (omega (arith, header-size t (sym h)))
+    runs-size n en = rw (take_rest, length-drop) (omega (arith, table-size n en))
 
   module _ (t : List ℕ) where
     pub unmarked : false ≡ table_marked (version_number v) t → Err TableMark ≡ table_verdict v t

@@ -3,15 +3,17 @@
 use mathlib.Core.Path.{◌≡◌, refl, ◌∙◌}
 use mathlib.Core.Bool.{Bool, true, false, cond, not, ◌&&◌, and_assoc, and_comm, and-true}
 use mathlib.Core.List.{List, [], ◌∷◌}
-use Prim.Native.Nat.{ℕ}
-use borrow.Author.Tests.{eqb-true, eqb-false}
+use Prim.Native.Nat.{ℕ, ◌^◌}
+use native.Mathlib.Omega.{arith}
+use borrow.Author.Tests.{eqb-true, eqb-false, ne_eqb}
 use lib.Dec.{eqb}
 use Rattle.std.specs.Prelude.{Option, None, Some}
 use Rattle.std.specs.Option.{option_eq}
 use lib.ListN.{length}
-use Rattle.octets.specs.Runs.{pieces}
+use Rattle.octets.specs.Runs.{Bytes, pieces}
 use Rattle.octets.specs.Fields.{field_of}
 use Rattle.octets.proofs.FieldsLaws.{numbers-zeros}
+use Rattle.octets.proofs.NumbersLaws.{be-gets_lt}
 use Rattle.rules.specs.Lists.{every}
 use Rattle.rules.specs.Layout.{current, live_in_place, place_fields, place_size, places_per_cell}
 use Rattle.rules.specs.Table.{place_of, is_free, is_live, live_first, places_of, legal_place, text_of, running, different, legal_places}
@@ -90,6 +92,13 @@ walk x y z [] = true
 walk x y z (b ∷ bs) =
     cond (eqb (live_byte b) 0) (every is_free (b ∷ bs))
     (legal_live b && not (option_eq eqb (Some (text_at_lem b)) x) && not (option_eq eqb (Some (text_at_lem b)) y) && not (option_eq eqb (Some (text_at_lem b)) z) && walk (Some (text_at_lem b)) x y bs)
+
+-- above every text
+abbrev pub no_text : ℕ
+no_text = 256 ^ 4
+
+pub no_text_lem : (b : List ℕ) → Bytes b → eqb (text_at_lem b) no_text ≡ false
+no_text_lem b h = ne_eqb (text_at_lem b) no_text (λ (e : text_at_lem b ≡ no_text). omega (arith, be-gets_lt 4 0 b h))
 
 walk-four : {a b c d : List ℕ} → All (PlaceRun current) (a ∷ b ∷ c ∷ d ∷ []) → walk_all [] (a ∷ b ∷ c ∷ d ∷ []) ≡ walk None None None (a ∷ b ∷ c ∷ d ∷ [])
 unfolding walk_all walk fresh

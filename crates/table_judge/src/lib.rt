@@ -85,7 +85,7 @@ pub fn runs_legal<F: Fn(&[u8]) -> bool>(runs: &[u8], size: usize, count: usize, 
         let at = size * k;
         let run = &runs[at..at + size];
         let identity = identity_at(run, 0);
-        if identity < least {
+        if identity.below(least) {
             return false;
         }
         if !legal(run) {
