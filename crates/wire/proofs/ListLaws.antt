@@ -244,9 +244,11 @@ module _ (m : Message) (l : List ℕ) where
         broken true read = plain_unsaid m l
         broken false read = list_breaks m l w.walk some read
 
-    pub walk_next : k < n → (r : Listed) → ListedAt plain m l at (Some r)
-        → PlainWalk plain n (k + 1) r.end (record { rejected = s.rejected || r.rejected; foreign = s.foreign || r.foreign; ascends = s.ascends && leb least r.identity }) (r.identity + 1)
-    walk_next some r read = record { walk = list-goes m l w.walk some r (entry_read plain at r read); unmarked = unmarked_next plain at s r (s.ascends && leb least r.identity) w.unmarked read }
+    pub walk_next : k < n → (r : Listed) → ListedAt plain m l at (Some r) → {next : ℕ} → next ≡ r.identity + 1
+        → PlainWalk plain n (k + 1) r.end (record { rejected = s.rejected || r.rejected; foreign = s.foreign || r.foreign; ascends = s.ascends && leb least r.identity }) next
+    walk_next some r read follows =
+        rw follows
+        (record { walk = list-goes m l w.walk some r (entry_read plain at r read); unmarked = unmarked_next plain at s r (s.ascends && leb least r.identity) w.unmarked read })
 
     pub walk_behind : n ≤ k → (at ≡ length l → ⊥) → WalkedBy plain m l None
     walk_behind done other = nothing_told plain (list-behind m l _ at (counted_ends w.walk done) w.walk.within other)
