@@ -1,6 +1,7 @@
 -- How many bytes each part has, and that what is still to be written has room.
 -- The parts are those of the response, whose sizes are known; an item's is a number for each message, so that what is multiplied by it is left to `omega`.
 use mathlib.Core.Path.{◌≡◌, refl}
+use mathlib.Core.Bool.{Bool, true}
 use mathlib.Core.List.{List}
 use Prim.Native.Nat.{ℕ, ◌+◌, ◌-◌, ◌*◌, ◌<◌, ◌≤◌}
 use native.Mathlib.Omega.{arith}
@@ -15,7 +16,7 @@ use Rattle.wire.specs.declared.Message.TheVariants.{CancelRequest, CancelRespons
 use Rattle.responses.specs.ResponseSize.{element_size, entry_size, list_size, listed_size, value_size}
 use Rattle.responses.proofs.ListFit.{length-entry, length-list}
 use Rattle.responses.proofs.ResponseSizeLaws.{listed-some, list-most, value-size}
-use Rattle.response_write.specs.Parts.{opening, opening_size, item_bytes, items_bytes, value_bytes}
+use Rattle.response_write.specs.Parts.{response_by, opening, opening_size, item_bytes, items_bytes, value_bytes}
 use Rattle.response_write.proofs.EncodedLaws.{entry-bytes, items-bytes, value-bytes}
 
 pub length-opening : (start n : ℕ) → length (opening start n) ≡ opening_size n
@@ -43,6 +44,9 @@ pub count_none : (m : Message) → (count_size m ≡ 2 → ⊥) → count_size m
 count_none CancelRequest none = refl
 count_none CancelResponse none = absurd (none refl)
 count_none WriteReplaceResponse none = refl
+
+pub counted-room : (counted : Bool) (at room : ℕ) → counted ≡ true → at + entry_size (response_by counted) ≤ room → at + 15 ≤ room
+counted-room counted at room e fits = rw e at fits
 
 -- an item of those that are left, and the others behind it
 pub items_left : (m : Message) (to many k room : ℕ) → k < many → to + entry_size m * (many - k) ≤ room

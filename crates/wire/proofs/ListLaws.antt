@@ -23,7 +23,7 @@ use Rattle.wire.specs.Cells.{Entry, entry_element, most_listed, list}
 use Rattle.wire.specs.Messages.{the_cells}
 use Rattle.wire.specs.MessageTree.{cells, contents_by}
 use Rattle.wire.specs.MessageRefusals.{rejects_entry, foreign_entry}
-use Rattle.wire.specs.Readers.{kept, number_of_entry, entry_numbers, marks_of, entry_by, EntriesCounted, EntryAt, Tells, ListedAt, WalkedBy}
+use Rattle.wire.specs.Readers.{kept, number_of_entry, entry_numbers, marks_of, entry_by, list_heard, EntriesCounted, EntryAt, Tells, ListedAt, PlainList, WalkedBy}
 use Rattle.wire.specs.declared.Message.{Message}
 use Rattle.wire.specs.declared.list.Listed.{Listed}
 use Rattle.wire.specs.declared.Marks.{Marks}
@@ -126,11 +126,20 @@ module _ (m : Message) (l : List ℕ) where
   pub list-none : ListGoal ≡ nothing → Tells (contents_by m the_cells) l None
   list-none e = sym (tells nothing e)
 
-  pub list-uncounted : EntriesCounted l None → Tells (contents_by m the_cells) l None
-  list-uncounted read = list-none (none (sym read.says))
+  uncounted : EntriesCounted l None → ListGoal ≡ nothing
+  uncounted read = none (sym read.says)
     where
       none : (from_one most_listed).parse l ≡ nothing → ListGoal ≡ nothing
       none e = unfold list behind in rw e
+
+  pub list-cut : length l < 2 → ListGoal ≡ nothing
+  list-cut h = uncounted (count_cut_lem l h)
+
+  pub list-many : (n : ℕ) → 2 ≤ length l → n ≡ be (gets l 0 2) → 512 ≤ n → ListGoal ≡ nothing
+  list-many n long here h = uncounted (count_many l n long here h)
+
+  pub list-uncounted : EntriesCounted l None → Tells (contents_by m the_cells) l None
+  list-uncounted read = list-none (uncounted read)
 
   pub list-start : (n : ℕ) → EntriesCounted l (Some n) → ListWalk n 0 2 at_first
   list-start n read = counted_starts (record { within = read.lies; comes = begins (sym read.says) })
@@ -158,6 +167,23 @@ module _ (m : Message) (l : List ℕ) where
     list_fine h =
         let all : length l ≤ at = omega arith in
         sym (tells (found s (drop at l)) e ∙ ap (λ (r : List ℕ). summed as_cells (all_of (found s r) [])) (drop_of_length-le l all))
+
+-- as its marks
+pub list_told_lem : (m : Message) (l : List ℕ) (r f a : Bool) (least at : ℕ) → ListGoal m l ≡ found (r, (f, (a, least))) (drop at l) → at ≡ length l
+    → Tells (contents_by m the_cells) l (list_heard (Some (record { rejected = r; foreign = f; ascends = a })))
+list_told_lem m l r f a least at e h = list_fine m l (r, (f, (a, least))) at e h
+
+-- ---- a list of items without extensions: none is marked reject, and each is a cell's
+
+pub plain_unsaid : (m : Message) (l : List ℕ) → PlainList m l None
+plain_unsaid m l = tt
+
+pub plain-told : (m : Message) (l : List ℕ) (a : Bool) (least at : ℕ) → ListGoal m l ≡ found (false, (false, (a, least))) (drop at l) → at ≡ length l
+    → PlainList m l (Some (record { rejected = false; foreign = false; ascends = a }))
+plain-told m l a least at e h = (list_told_lem m l false false a least at e h, refl, refl)
+
+pub plain-heard : (m : Message) (l : List ℕ) (r : Marks) → PlainList m l (Some r) → list_heard (Some r) ≡ Some (Cells (record { rejected = false; foreign = false; ascends = r.ascends }))
+plain-heard m l r p = rw (p.1, p.2)
 
 -- ---- the same where each entry is to be an item without extensions: none is marked reject then, and each is a cell's
 
@@ -195,7 +221,7 @@ module _ (m : Message) (l : List ℕ) where
 
   -- of what is no list, or is not looked for, it tells nothing
   pub nothing_told : (plain : Bool) → Tells (contents_by m the_cells) l None → WalkedBy plain m l None
-  nothing_told true t = tt
+  nothing_told true t = plain_unsaid m l
   nothing_told false t = t
 
   entry_read : (plain : Bool) (at : ℕ) (r : Listed) → ListedAt plain m l at (Some r) → EntryAt m l at (Some r)
@@ -215,12 +241,14 @@ module _ (m : Message) (l : List ℕ) where
     walk_breaks_lem some read = broken plain read
       where
         broken : (p : Bool) → ListedAt p m l at None → WalkedBy p m l None
-        broken true read = tt
+        broken true read = plain_unsaid m l
         broken false read = list_breaks m l w.walk some read
 
-    pub walk_next : k < n → (r : Listed) → ListedAt plain m l at (Some r)
-        → PlainWalk plain n (k + 1) r.end (record { rejected = s.rejected || r.rejected; foreign = s.foreign || r.foreign; ascends = s.ascends && leb least r.identity }) (r.identity + 1)
-    walk_next some r read = record { walk = list-goes m l w.walk some r (entry_read plain at r read); unmarked = unmarked_next plain at s r (s.ascends && leb least r.identity) w.unmarked read }
+    pub walk_next : k < n → (r : Listed) → ListedAt plain m l at (Some r) → {next : ℕ} → next ≡ r.identity + 1
+        → PlainWalk plain n (k + 1) r.end (record { rejected = s.rejected || r.rejected; foreign = s.foreign || r.foreign; ascends = s.ascends && leb least r.identity }) next
+    walk_next some r read follows =
+        rw follows
+        (record { walk = list-goes m l w.walk some r (entry_read plain at r read); unmarked = unmarked_next plain at s r (s.ascends && leb least r.identity) w.unmarked read })
 
     pub walk_behind : n ≤ k → (at ≡ length l → ⊥) → WalkedBy plain m l None
     walk_behind done other = nothing_told plain (list-behind m l _ at (counted_ends w.walk done) w.walk.within other)

@@ -14,6 +14,7 @@ use Rattle.wire.proofs.HeardLaws.{heard_settled}
 use Rattle.wire.proofs.hear.Reads as hear
 use Rattle.wire.proofs.identity_at.Reads as identity_at_lem
 use Rattle.wire.proofs.transaction.Reads as transaction
+use Rattle.wire.proofs.list.heard.Reads as heard
 use Rattle.wire.proofs.list.list_told.Reads as list_told_lem
 use Rattle.wire.proofs.list.told.Reads as told
 use Rattle.wire.proofs.Message.frame_id.Reads as frame_id_lem
@@ -64,6 +65,9 @@ told_once κ args r s e f p q = marks_settled r s (heard_settled (list_heard r) 
 
 pub list_told_once : SettlesResult list_told_lem.Learnt
 list_told_once κ args r s e f p q = marks_settled r s (heard_settled (list_heard r) (list_heard s) (one-outcome p q))
+
+pub heard_once : SettlesResult heard.Learnt
+heard_once κ args r s e f = one-outcome
 
 pub identity_at_once : SettlesResult identity_at_lem.Learnt
 identity_at_once κ args r s e f = one-outcome

@@ -14,7 +14,7 @@ ghost use Rattle.wire.specs.MessageTree.{contents, contents_by};
 ghost use Rattle.wire.specs.Readers.{NoteAt, Tells, transaction_heard};
 
 use crate::form::{PADDING, TRANSACTION};
-use crate::list::list_told;
+use crate::list::{heard, list_told};
 use aper::given_at;
 use octets::get;
 
@@ -191,7 +191,7 @@ fn in_request(id: u16, part: &[u8]) -> Option<Heard>
     ensures { Tells (contents_by CancelRequest (beside_name CancelRequest id)) part.now result }
 {
     if id == Message::CancelRequest.cells_id() {
-        return Some(Heard::Cells(list_told(Message::CancelRequest, part)?));
+        return heard(list_told(Message::CancelRequest, part));
     }
     further(id, part)
 }

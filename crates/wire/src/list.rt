@@ -5,7 +5,7 @@ ghost use Rattle.wire.specs.MessageTree.{contents_by};
 ghost use Rattle.wire.specs.Readers.{ItemGraded, GradeLies, plain_head, PlainItem, EntriesCounted, ListedAt, WalkedBy, PlainList, Tells, list_heard};
 
 use crate::form::{IDENTITY_AT, IDENTITY_END, LISTED_HEAD};
-use crate::{Marks, Message, identity_at};
+use crate::{Heard, Marks, Message, identity_at};
 use aper::{Criticality, Element, element_at, given_at};
 use octets::get;
 
@@ -183,4 +183,12 @@ pub fn list_told(m: Message, s: &[u8]) -> Option<Marks>
     ensures { Tells (contents_by m the_cells) s.now (list_heard result) }
 {
     plain_list(m, s).or_else(|| told(m, s))
+}
+
+// What is heard where a list was looked for.
+pub fn heard(told: Option<Marks>) -> Option<Heard>
+    ensures { result ≡ list_heard told }
+{
+    let marks = told?;
+    Some(Heard::Cells(marks))
 }

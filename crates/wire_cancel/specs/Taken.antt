@@ -1,7 +1,6 @@
 -- What the functions of this crate answer: the record of what a message says, and all that reading it leaves.
-use Rattle.std.specs.Prelude.{◌≡◌, cond, List, ℕ, eqb, length}
+use Rattle.std.specs.Prelude.{cond, List, ℕ, eqb, length}
 use Rattle.octets.specs.Numbers.{to_be}
-use Rattle.octets.proofs.NumbersLaws.{length-to_be}
 use Rattle.rules.specs.Layout.{current, item_size}
 use Rattle.rules.specs.Reply.{Row, identities}
 use Rattle.rules.specs.Record.{cancel_or_kill, no_area, cell_area}
@@ -17,9 +16,6 @@ use Rattle.wire_judge.specs.declared.Seen.{Seen}
 -- a cell as an item of the record
 abbrev pub item_of : Row → List ℕ
 item_of w = to_be (item_size current) w.identity
-
-pub item-sized : (w : Row) → length (item_of w) ≡ item_size current
-item-sized w = rw length-to_be
 
 -- the cells that a list of these bytes names
 abbrev pub cells_listed : List ℕ → List ℕ

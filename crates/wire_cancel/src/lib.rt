@@ -27,7 +27,8 @@ struct Item;
 
 impl Form for Item {
     ghost use Rattle.rules.specs.Layout.{current, item_size};
-    ghost use Rattle.wire_cancel.specs.Taken.{item_of, item-sized};
+    ghost use Rattle.wire_cancel.specs.Taken.{item_of};
+    ghost use Rattle.octets.proofs.NumbersLaws.{length-to_be};
 
     ghost form = { item_of };
 
@@ -39,7 +40,7 @@ impl Form for Item {
         put(out, at, cell.identity.0);
     }
 
-    ghost sized = { item-sized };
+    ghost sized = { λ w. length-to_be (item_size current) w.identity };
 }
 
 // Stays: this and the next two as functions and no From, since the types are numbers or other crates'.

@@ -6,7 +6,7 @@ use mathlib.Core.List.{List, [], ◌∷◌, ◌++◌, flat_map}
 use Prim.Native.Nat.{ℕ, suc, ◌+◌, ◌-◌, ◌*◌, ◌<◌, ◌≤◌}
 use native.Mathlib.Omega.{arith}
 use lib.Dec.{eqb}
-use lib.ListN.{length, drop, drop_of_length-le}
+use lib.ListN.{length, drop}
 use lib.Seq.{sets, length-sets}
 use borrow.Author.Tests.{eqb-true, eqb-false}
 use Rattle.octets.specs.Runs.{gets}
@@ -33,7 +33,7 @@ use Rattle.wire_cells.proofs.WholeListLaws.{Entries, entries, no_cells_lem, none
 module _ (m : Message) (stored : Row → List ℕ) (size from : ℕ) (sized : (w : Row) → length (stored w) ≡ size) where
   pub record ToCome (before l buffer : List ℕ) (left at out : ℕ) : Type 0 where
     pub entries : List (Element Entry)
-    pub within : 0 < left → at ≤ length l
+    pub within : at ≤ length l
     pub come : several (entry_element m) left (drop at l) ≡ found entries []
     pub own : any foreign_entry entries ≡ false
     pub long : length buffer ≡ length before
@@ -43,42 +43,23 @@ module _ (m : Message) (stored : Row → List ℕ) (size from : ℕ) (sized : (w
   -- ---- its start
 
   module _ (before l : List ℕ) where
-    -- where there is no list
-    none_come : length l ≡ 0 → from ≤ length before → ToCome before l before 0 2 from
-    unfolding flat_map any rows_in several
-    none_come e fits =
-        record {
-          entries = [];
-          within = λ some. absurd (omega arith);
-          come = rw (let short : length l ≤ 2 = omega arith in drop_of_length-le l short);
-          own = refl;
-          long = refl;
-          room = omega arith;
-          same = rw (no_cells_lem m l e);
-        }
+    -- where there is no list, nothing is stored
+    pub none_come : length l ≡ 0 → before ≡ sets before from (flat_map stored (rows_listed m l))
+    unfolding flat_map
+    none_come e = rw (no_cells_lem m l e)
 
-    some_come : (a : Entries m l) → from + size * length (rows_listed m l) ≤ length before → ToCome before l before (be (gets l 0 2) + 1) 2 from
-    some_come a fits =
-        let many : be (gets l 0 2) + 1 ≡ length (rows_listed m l) = (some-counted m l a refl).counts in
+    pub come_start : (a : Entries m l) {k : ℕ} → k ≡ be (gets l 0 2) → from + size * length (rows_listed m l) ≤ length before → ToCome before l before (k + 1) 2 from
+    come_start a {k} e fits =
+        let many : k + 1 ≡ length (rows_listed m l) = (some-counted m l a e).counts in
         record {
           entries = a.all;
-          within = λ some. a.long;
-          come = a.come;
+          within = a.long;
+          come = rw e a.come;
           own = a.own;
           long = refl;
           room = rw many fits;
           same = rw a.rows;
         }
-
-    pub come_start : JudgedList m l → {n : ℕ} → n ≡ length (rows_listed m l) → from + size * length (rows_listed m l) ≤ length before → ToCome before l before n 2 from
-    come_start judged {n} many fits =
-        by_test (eqb (length l) 0)
-        (λ t.
-        let e = eqb-true (length l) 0 t in
-        rw (many, ← (none-counted m l e).counts) (none_come e (omega arith)))
-        (λ t.
-        let a = entries m l (eqb-false (length l) 0 t) judged in
-        rw (many, ← (some-counted m l a refl).counts) (some_come a fits))
 
   -- ---- a turn
 
@@ -101,7 +82,7 @@ module _ (m : Message) (stored : Row → List ℕ) (size from : ℕ) (sized : (w
       each_own = neither (foreign_entry next.value) (any foreign_entry next.others) (sym (ap (any foreign_entry) next.all) ∙ w.own)
 
       pub come_entry : OwnEntry m l at
-      come_entry = record { within = w.within some; entry = next.value; rest = next.rest; there = next.first; own = each_own.0 }
+      come_entry = record { within = w.within; entry = next.value; rest = next.rest; there = next.first; own = each_own.0 }
 
       pub come_room : out + size ≤ length buffer
       come_room = omega (arith, one_less_lem size some, w.room)
@@ -121,16 +102,44 @@ module _ (m : Message) (stored : Row → List ℕ) (size from : ℕ) (sized : (w
         unfolding flat_map
         stored-left = rw put (sym (sets-run (stored (row_said c)) (flat_map stored (rows_in next.others)) buffer out (out + size) (rw (sized (row_said c)))))
 
-        pub come_next : {later : ℕ} → later ≡ left - 1 → ToCome before l after later c.end (out + size)
-        come_next less =
+        pub come_next : ToCome before l after (left - 1) c.end (out + size)
+        come_next =
             let kept : length after ≡ length buffer = ap length put ∙ length-sets buffer out (stored (row_said c)) in
-            rw less
-            (record {
+            record {
               entries = next.others;
-              within = λ more. cell.ends;
+              within = cell.ends;
               come = ap (several (entry_element m) (left - 1)) (sym (found-rest (row_in next.value.contents) (row_said c ∷ []) next.rest (drop c.end l) told)) ∙ next.later;
               own = each_own.1;
               long = kept ∙ w.long;
               room = omega (arith, one_less_lem size some, w.room, kept);
               same = w.same ∙ ap (λ (ws : List Row). sets buffer out (flat_map stored ws)) rows_left ∙ stored-left;
-            })
+            }
+
+  -- ---- between two turns, where there may be no list
+
+  pub record Coming (before l buffer : List ℕ) (left at out : ℕ) : Type 0 where
+    pub to_come : 0 < left → ToCome before l buffer left at out
+    pub done : left ≤ 0 → buffer ≡ sets before from (flat_map stored (rows_listed m l))
+
+  module _ (before l : List ℕ) where
+    come_whole : {buffer : List ℕ} {left at out : ℕ} → ToCome before l buffer left at out → Coming before l buffer left at out
+    come_whole w = record { to_come = λ some. w; done = come_done w }
+
+    pub coming_start : JudgedList m l → {n : ℕ} → n ≡ length (rows_listed m l) → from + size * length (rows_listed m l) ≤ length before → Coming before l before n 2 from
+    coming_start judged {n} many fits =
+        by_test (eqb (length l) 0)
+        (λ t.
+        let e = eqb-true (length l) 0 t in
+        let none : n ≡ 0 = many ∙ sym (none-counted m l e).counts in
+        record { to_come = λ some. absurd (omega (arith, none)); done = λ nothing. none_come before l e })
+        (λ t.
+        let a = entries m l (eqb-false (length l) 0 t) judged in
+        rw (many, ← (some-counted m l a refl).counts) (come_whole (come_start before l a refl fits)))
+
+    module _ {buffer : List ℕ} {left at out : ℕ} (w : Coming before l buffer left at out) (some : 0 < left) where
+      pub coming_entry : OwnEntry m l at
+      coming_entry = come_entry (w.to_come some) some
+
+      pub coming_next : (c : Cell) → CellAt m l at c → (after : List ℕ) → after ≡ sets buffer out (stored (row_said c)) → {later : ℕ} → later ≡ left - 1
+          → Coming before l after later c.end (out + size)
+      coming_next c cell after put less = rw less (come_whole (come_next (w.to_come some) some c cell after put))

@@ -50,9 +50,12 @@ module _ (m : Message) (s : List ℕ) (bytes : Bytes s) (w : WholeItem m s) wher
   fixed-bytes = item-long m s [] bytes w.it w.reads
 
   module _ (flags : ℕ) (first : flags ≡ be (gets s 0 1)) where
+    pub count_missing : GivenAt s 9 (flags / 16 % 2) None → ⊥
+    count_missing read = count-there m s [] bytes w.it w.reads (rw first at read)
+
     pub extensions_there : (r : Option Run) → GivenAt s 9 (flags / 16 % 2) r → IsSome r
     extensions_there (Some own) read = refl
-    extensions_there None read = absurd (count-there m s [] bytes w.it w.reads (rw first at read))
+    extensions_there None read = absurd (count_missing read)
 
     module _ (own : Run) (read : GivenAt s 9 (flags / 16 % 2) (Some own)) where
       pub count-inside : own.end + count_size m ≤ length s

@@ -92,7 +92,7 @@ module _ (m : Message) (l : List ℕ) (at choice code : ℕ) (framed : outer.par
   none : nothing ≡ all_of (summed (ours m) (outer.parse l)) [] → FramedAs m l (Err BadEncoding)
   none e = subst (FramedBy l (Err BadEncoding)) e refl
 
-  frame-none : ElementAt l at None → FramedAs m l (Err BadEncoding)
+  pub frame-none : ElementAt l at None → FramedAs m l (Err BadEncoding)
   frame-none read = none (answers nothing (framed ∙ ap (λ (x : Found (Element (List ℕ))). after x (framed_as choice code)) (sym read.says)))
 
   module _ (id criticality start end : ℕ) (read : ElementAt l at (Some (record { id = id; criticality = criticality; start = start; end = end }))) where
@@ -100,14 +100,14 @@ module _ (m : Message) (l : List ℕ) (at choice code : ℕ) (framed : outer.par
     unfolding framed_as
     this = framed ∙ ap (λ (x : Found (Element (List ℕ))). after x (framed_as choice code)) (sym read.says)
 
-    frame-criticality : 3 ≤ criticality → FramedAs m l (Err BadEncoding)
+    pub frame-criticality : 3 ≤ criticality → FramedAs m l (Err BadEncoding)
     frame-criticality h = none (answers nothing (this ∙ rw (le-ltb criticality 3 h)))
 
     module _ (small : criticality < 3) where
       there : outer.parse l ≡ found (frame_by choice code criticality (take (end - start) (drop start l))) (drop end l)
       there = this ∙ rw (lt-ltb criticality 3 small)
 
-      frame-behind : (end ≡ length l → ⊥) → FramedAs m l (Err BadEncoding)
+      pub frame-behind : (end ≡ length l → ⊥) → FramedAs m l (Err BadEncoding)
       frame-behind other =
           let more : end < length l = omega (arith, other, read.lies.1) in
           none (rw (drop-cons l end 0 more) at (answers (found (frame_by choice code criticality (take (end - start) (drop start l))) (drop end l)) there))
@@ -123,7 +123,7 @@ module _ (m : Message) (l : List ℕ) (at choice code : ℕ) (framed : outer.par
         frame-ours p q =
             (rw (eq-eqb choice (choice_of m) p, eq-eqb code (code_of m) q) at (answers (found (frame_by choice code criticality (drop start l)) []) whole), omega (arith, read.lies.2))
 
-        frame-other : (eqb choice (choice_of m) && eqb code (code_of m)) ≡ false → FramedAs m l (Err OtherMessage)
+        pub frame-other : (eqb choice (choice_of m) && eqb code (code_of m)) ≡ false → FramedAs m l (Err OtherMessage)
         frame-other t =
             let other : found [] [] ≡ all_of (summed (ours m) (outer.parse l)) [] = rw t at (answers (found (frame_by choice code criticality (drop start l)) []) whole) in
             subst (FramedBy l (Err OtherMessage)) other (refl, refl)

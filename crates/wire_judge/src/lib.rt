@@ -219,7 +219,11 @@ fn each_element<K: Kept>(m: Message, s: &[u8]) -> Option<K>
     let mut kept = K::nothing();
     for _ in 0..get::<u16>(s, ELEMENTS_AT) {
         let element = element_at(s, at)?;
-        kept = kept.with(m, s, element)?;
+        // A badly encoded element ends the walk with nothing, whatever was seen before it.
+        kept = match kept.with(m, s, element) {
+            Some(next) => next,
+            None => return None,
+        };
         at = element.end;
     }
     if at != s.len() {

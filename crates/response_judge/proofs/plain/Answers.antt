@@ -1,5 +1,6 @@
 -- `plain` says what was met in a response that is a transaction identifier alone, or it and a plain list: both ways are laws of `GlanceLaws`.
 use mathlib.Core.Path.{◌∙◌}
+use native.Mathlib.Omega.{arith}
 use borrow.Author.Tests.{eqb-true}
 use Rattle.rules.proofs.TestLaws.{both}
 use Rattle.response_judge.proofs.GlanceLaws.{identifier-alone, list-alone}
@@ -14,4 +15,4 @@ returns-then-elements-s c =
 pub returns : goal.returns
 returns c =
     rw c.alone-2.ensures
-    (list-alone _ _ c.if-not-fronted.ensures _ c.get-number.ensures _ c.get-elements.ensures c.if-elements-ne2.false _ _ _ _ c.in_ok-list.ensures (c.if-list-cells_id.false ∙ c.cells_id.ensures) _ c.in_ok-marks.ensures c.if-list-s.false)
+    (list-alone _ _ c.if-not-fronted.ensures _ c.get-number.ensures _ c.get-elements.ensures c.if-elements-ne2.false _ _ _ _ c.in_ok-list.ensures (c.if-list-cells_id.false ∙ c.cells_id.ensures) _ c.in_ok-marks.ensures (omega (arith, c.if-list-s.false, c.in_ok-list.ensures.lies)))

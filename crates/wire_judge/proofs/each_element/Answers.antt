@@ -27,14 +27,12 @@ returns-in_err-element g c =
 pub with-requires-clause-lies : goal.with-requires-clause-lies
 with-requires-clause-lies g c = c.loop.invariant.lies
 
-pub returns-in_err-kept : goal.returns-in_err-kept
-returns-in_err-kept g c =
-    rw c.from_residual-in_err-kept.ensures
-    (turn_broken _ _ c.loop.invariant (omega arith) (c.in_err-kept.ensures c.loop.at c.in_ok-element.ensures))
+pub returns-in-None : goal.returns-in-None
+returns-in-None g c = turn_broken _ _ c.loop.invariant (omega arith) (c.in-None.ensures c.loop.at c.in_ok-element.ensures)
 
 pub loop-preserved : goal.loop-preserved
 loop-preserved g c =
-    turn_on _ _ c.loop.invariant (omega arith) (omega arith) _ _ (c.in_ok-kept.ensures c.loop.at c.in_ok-element.ensures)
+    turn_on _ _ c.loop.invariant (omega arith) (omega arith) _ _ (c.in-Some.ensures c.loop.at c.in_ok-element.ensures)
 
 pub returns-then-at-s : goal.returns-then-at-s
 returns-then-at-s g c = walk-behind _ _ c.loop.invariant (omega arith) c.if-at-s.true

@@ -20,7 +20,7 @@ pub overflow_add-least : goal.overflow_add-least
 overflow_add-least g c = let small = entry_small c.args.m c.args.s.now (switch g.row.PLAIN) _ _ c.in_ok-entry.ensures in omega (arith, small)
 
 pub loop-preserved : goal.loop-preserved
-loop-preserved g c = walk_next _ _ c.loop.invariant c.loop-test.true _ c.in_ok-entry.ensures
+loop-preserved g c = walk_next _ _ c.loop.invariant c.loop-test.true _ c.in_ok-entry.ensures (omega arith)
 
 pub returns-then-at-s : goal.returns-then-at-s
 returns-then-at-s g c = walk_behind _ _ c.loop.invariant c.loop-test.false c.if-at-s.true
