@@ -1,7 +1,7 @@
 -- The tests of a call, in their order, and its outcome by them: the cases of `apply_verdict` and of `applied`.
 -- Each test that was passed is put into the chain of verdicts; what is accepted has the sizes that its tests ask for.
 use Rattle.std.specs.Prelude.{Ok, Err}
-use mathlib.Core.Path.{◌≡◌}
+use mathlib.Core.Path.{◌≡◌, refl}
 use mathlib.Core.List.{List}
 use Prim.Native.Nat.{ℕ, ◌+◌, ◌*◌, ◌<◌, ◌≤◌}
 use native.Mathlib.Omega.{arith}
@@ -11,7 +11,7 @@ use Rattle.rules.specs.Layout.{current, header_size, record_size, answer_size, r
 use Rattle.rules.specs.Table.{cell_count}
 use Rattle.rules.specs.Record.{unknown_kind, kind_of, request_of, items_of}
 use Rattle.rules.specs.Answer.{room_for}
-use Rattle.rules.specs.Refusals.{table_verdict, record_verdict, apply_verdict}
+use Rattle.rules.specs.Refusals.{Verdict, table_verdict, record_verdict, apply_verdict}
 use Rattle.rules.specs.Applied.{outcome, outcome_by, applied}
 use Rattle.rules.specs.declared.Refusal.{Refusal}
 use Rattle.rules.specs.declared.Refusal.TheVariants.{ShortBuffer}
@@ -21,6 +21,12 @@ use Rattle.rules.proofs.VerdictLaws.{apply_chain, request-accepted}
 use Rattle.rules.proofs.KindAreaLaws.{kind-known}
 use Rattle.rules.proofs.AcceptedCallLaws.{call_accepted}
 use Rattle.engine.specs.Walk.{Granted}
+
+-- ---- a verdict that is no refusal
+
+pub no-refusal : (v : Verdict) → ((x : Refusal) → v ≡ Err x → ⊥) → v ≡ Ok tt
+no-refusal (Ok tt) n = refl
+no-refusal (Err x) n = absurd (n x refl)
 
 -- ---- the tests
 

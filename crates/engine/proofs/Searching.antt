@@ -76,7 +76,7 @@ module _ (area : ℕ) (items : List ℕ) (h : Head) (by : ℕ → Bool) where
 -- ---- what names a cell
 
 -- the keys in use, compared one by one
-by_keys : (n x a b c d : ℕ)
+pub by_keys : (n x a b c d : ℕ)
     → one_of x (take n (a ∷ b ∷ c ∷ d ∷ []))
     ≡ cond (eqb n 0) false (eqb x a || cond (eqb n 1) false (eqb x b || cond (eqb n 2) false (eqb x c || cond (eqb n 3) false (eqb x d))))
 unfolding one_of any

@@ -106,3 +106,10 @@ module _ (q : Request) (items : List ℕ) {T A : List ℕ} {R most lt la : ℕ} 
       pub stepped : {at' out' left' : ℕ} → at' ≡ at + cell_size current → out' ≡ out + row_size current * n → left' ≡ left - 1
           → GoingOn q items T A R most lt la (put_mid at k t c') (put_mid out m a o') at' out' (rows + n) left'
       stepped ea eo el = rw (ea, eo, el, ek) (stepped_here m em c' o' n (rw ek at s) (rw ek at same))
+
+      -- the same without a row
+      pub stepped_silent : n ≤ 0 → GoingOn q items T A R most lt la (put_mid at k t c') (put_mid out m a o') (at + cell_size current) out rows (left - 1)
+      stepped_silent z =
+          let eo : out + row_size current * n ≡ out = omega arith in
+          let er : rows + n ≡ rows = omega arith in
+          rw er at (stepped refl (sym eo) refl)

@@ -86,6 +86,17 @@ module _ {c₀ c : List ℕ} {k : ℕ} {passed rest : List Place} {p : Place} (w
         fit-rest = (fit_next w.fit-rest).1;
       }
 
+  pub next_stays : Passing c₀ c (k + 1) (passed ++ (p ∷ [])) rest
+  next_stays =
+      record {
+        size = w.size;
+        cell = w.cell ∙ rw append_assoc;
+        behind = rw (length-append, w.behind);
+        few = omega (arith, w.few);
+        fit_passed = all_append w.fit_passed (more next-fit none);
+        fit-rest = (fit_next w.fit-rest).1;
+      }
+
   without-next : without k (passed ++ (p ∷ rest)) ≡ passed ++ rest
   unfolding without
   without-next = rw (take_at passed (p ∷ rest) k w.behind, ← drop-drop 1 k (passed ++ (p ∷ rest)), drop_at passed (p ∷ rest) k w.behind)

@@ -1,3 +1,4 @@
 mod FieldReads
+pub mod TestOrder
 pub mod Items
 pub mod Once

@@ -2,10 +2,11 @@
 use mathlib.Core.Path.{◌≡◌, refl, sym, ap, ◌∙◌}
 use mathlib.Core.List.{List, [], ◌∷◌, ◌++◌, append_assoc}
 use Prim.Native.Nat.{ℕ, zero, suc, ◌+◌, ◌/◌, ◌%◌, ◌^◌, ◌≤◌, ◌<◌}
-use native.Mathlib.Nat.{add_comm}
+use native.Mathlib.Nat.{add_comm, add-zero}
 use native.Mathlib.Omega.{arith}
 use native.Mathlib.Numerals.{add-one}
 use lib.ListN.{length, drop, set, length-append}
+use lib.Seq.{sets, set_comm, length-sets}
 use borrow.Author.Tests.{lt-ltb, le-ltb}
 use Rattle.std.specs.Fmt.{decimal as std_decimal}
 use Rattle.std.proofs.lemmas.List.{drop-set}
@@ -16,6 +17,38 @@ use Rattle.report_lines.specs.Told.{Tells}
 use Rattle.report_lines.specs.declared.text.Text.{Text}
 
 -- ---- digits
+
+pub glyph-low : (d : ℕ) → d < 10 → glyph d ≡ 48 + d
+unfolding glyph
+glyph-low d h = rw (lt-ltb d 10 h)
+
+pub glyph-high : (d : ℕ) → 10 ≤ d → 87 + d ≡ glyph d
+unfolding glyph
+glyph-high d h = rw (le-ltb d 10 h)
+
+pub length_digits : (base k n : ℕ) → length (digits base k n) ≡ k
+unfolding digits
+length_digits base zero n = refl
+length_digits base (suc k) n =
+    let l : length (digits base k (n / base)) ≡ k = length_digits base k (n / base) in
+    rw (length-append, l) (omega arith)
+
+-- an element stored first, and then those before it
+sets_last : (xs l : List ℕ) (at k v : ℕ) → k ≡ at + length xs → sets (set l k v) at xs ≡ sets l at (xs ++ (v ∷ []))
+sets_last [] l at k v e = rw (e, add-zero)
+sets_last (x ∷ xs) l at k v e =
+    rw (set_comm l k at v x (λ (h : k ≡ at). omega arith)) (sets_last xs (set l at x) (suc at) k v (omega arith))
+
+-- the last digit is stored, the others are still to come
+pub last_stored : (base left k rest : ℕ) (out : List ℕ) (at : ℕ) → left ≡ suc k
+    → sets (set out (at + k) (glyph (rest % base))) at (digits base k (rest / base)) ≡ sets out at (digits base left rest)
+unfolding digits
+last_stored base left k rest out at e =
+    rw e (sets_last (digits base k (rest / base)) out at (at + k) (glyph (rest % base)) (rw length_digits))
+
+pub all_stored : (base left rest at : ℕ) {out goal : List ℕ} → sets out at (digits base left rest) ≡ goal → left ≡ 0 → out ≡ goal
+unfolding digits
+all_stored base left rest at e h = rw h at e
 
 -- the last digit that is left is stored before those that are there
 pub digits-more : (base k left rest : ℕ) (text : List ℕ) → left ≡ suc k → left ≤ length text
@@ -29,11 +62,22 @@ unfolding digits
 digits-done base zero rest text h e = e
 digits-done base (suc k) rest text h e = absurd (omega arith)
 
--- ---- decimal numbers
+-- ---- how many
 
-glyph-low : (d : ℕ) → d < 10 → glyph d ≡ 48 + d
-unfolding glyph
-glyph-low d h = rw (lt-ltb d 10 h)
+pub places-done : (left rest : ℕ) → rest < 10 → places left rest ≡ 1
+unfolding places
+places-done zero rest h = refl
+places-done (suc left) rest h = rw (lt-ltb rest 10 h)
+
+pub places-more : (left k rest : ℕ) → left ≡ suc k → 10 ≤ rest → places left rest ≡ 1 + places k (rest / 10)
+unfolding places
+places-more left k rest e h = rw (e, le-ltb rest 10 h)
+
+pub places-none : (left rest : ℕ) → left ≡ 0 → places left rest ≡ 1
+unfolding places
+places-none left rest e = rw e
+
+-- ---- decimal numbers
 
 -- as many digits as a bound allows
 abbrev spelt : ℕ → ℕ → List ℕ
@@ -64,6 +108,10 @@ said_then {out} {next} {last} {xs} {ys} {at} {mid} {end} a b =
       stored = b.stored ∙ rw a.stored (sets-run xs ys out at mid a.ends);
       ends = b.ends ∙ rw (a.ends, length-append) (omega arith);
     }
+
+-- a writer keeps the buffer's length
+pub said-long : {out next xs : List ℕ} {at end : ℕ} → Said out at xs next end → length next ≡ length out
+said-long {out} {next} {xs} {at} {end} a = rw a.stored (length-sets out at xs)
 
 pub tells_then : {s s' s'' : Text} {xs ys : List ℕ} → Tells s xs s' → Tells s' ys s'' → Tells s (xs ++ ys) s''
 tells_then a b =

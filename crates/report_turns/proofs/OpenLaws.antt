@@ -1,13 +1,13 @@
 -- What `open_table` and its parts find at the front of the bytes at hand, and what they do with it, is the turn that the definition has.
-use Rattle.std.specs.Prelude.{Some, None, Ok, Err}
+use Rattle.std.specs.Prelude.{Option, Some, None, is_none, Ok, Err}
 use mathlib.Core.Path.{◌≡◌, refl, sym, ap, ◌∙◌}
-use mathlib.Core.Bool.{Bool, cond, ◌||◌}
+use mathlib.Core.Bool.{Bool, false, cond, ◌||◌}
 use mathlib.Core.List.{List, [], ◌++◌}
-use Prim.Native.Nat.{ℕ, ◌+◌, ◌*◌, ◌≤◌}
+use Prim.Native.Nat.{ℕ, ◌+◌, ◌*◌, ◌≤◌, ◌<◌}
 use native.Mathlib.Omega.{arith}
 use lib.ListN.{length, take, drop, take-append-drop}
 use lib.Seq.{length-take-le}
-use borrow.Author.Tests.{ne_eqb}
+use borrow.Author.Tests.{le-leb, lt-leb, ne_eqb}
 use Rattle.rules.specs.Layout.{current, head_size}
 use Rattle.rules.specs.Refusals.{number_of, Writing}
 use Rattle.rules.specs.Applied.{Filled, filled_by, built}
@@ -15,7 +15,7 @@ use Rattle.rules.specs.declared.Refusal.{Refusal}
 use Rattle.rules.proofs.OutcomeLaws.{number_positive, built-refused}
 use Rattle.report_lines.specs.Text.{no_text}
 use Rattle.report_lines.specs.Told.{Tells}
-use Rattle.report_lines.specs.Framing.{count_size, heads_end}
+use Rattle.report_lines.specs.Framing.{count_size, cells_named, heads_end}
 use Rattle.report_lines.specs.declared.text.Text.{Text}
 use Rattle.report_lines.proofs.TextLaws.{tells_none}
 use Rattle.report_turns.specs.Report.{answer_room, table_size, heads_there}
@@ -25,12 +25,34 @@ use Rattle.report_turns.specs.Buffers.{Stepped, program_in}
 use Rattle.report_turns.specs.declared.Took.{Took}
 use Rattle.report_turns.specs.declared.Next.{Next}
 use Rattle.report_turns.specs.declared.Next.TheVariants.{Go, Wait, Stop}
+use Rattle.report_turns.proofs.OpeningLaws.{within}
 use Rattle.report_turns.proofs.StoredLaws.{sets_all, sets-take, part-stored}
 
 -- what was not left unwritten was written
 pub written-if : (w : Writing) → ((x : Refusal) → w ≡ Err x → ⊥) → (n : ℕ) × (w ≡ Ok n)
 written-if (Ok n) not = (n, refl)
 written-if (Err x) not = absurd (not x refl)
+
+-- ---- N and the heads
+
+pub there-short : (l : List ℕ) → length l < count_size → None ≡ heads_there l
+there-short l h = rw (lt-leb count_size (length l) h)
+
+module _ (l : List ℕ) (n : ℕ) (e : Some n ≡ cells_named l) (long : count_size ≤ length l) where
+  pub there-cut : length l < count_size + head_size current * n → None ≡ heads_there l
+  there-cut h = rw (le-leb count_size (length l) long, ← e, lt-leb (heads_end n) (length l) h)
+
+  pub there_all : count_size + head_size current * n ≤ length l → Some n ≡ heads_there l
+  there_all h = rw (le-leb count_size (length l) long, ← e, le-leb (heads_end n) (length l) h)
+
+pub there-within : (l : List ℕ) (n : ℕ) → Some n ≡ heads_there l → heads_end n ≤ length l
+there-within l n e = within l n (sym e)
+
+pub none-short : (l : List ℕ) → length l < count_size → false ≡ no_cells l
+none-short l h = rw (lt-leb count_size (length l) h)
+
+pub none_named : (l : List ℕ) {n : Option ℕ} → n ≡ cells_named l → count_size ≤ length l → (b : Bool) → b ≡ is_none n → b ≡ no_cells l
+none_named l e long b t = rw (le-leb count_size (length l) long, ← e) t
 
 -- ---- no table
 

@@ -39,6 +39,17 @@ named-most l n e =
     omega (arith, leb-true m most_cells (both (leb 1 m) (leb m most_cells) t).1))
     (λ (t : (leb 1 m && leb m most_cells) ≡ false). let none : None ≡ Some n = rw t at e in cc)
 
+pub named-least : (l : List ℕ) (n : ℕ) → cells_named l ≡ Some n → 1 ≤ n
+unfolding cells_named
+named-least l n e =
+    let m : ℕ = be (take count_size l) in
+    by_test (leb 1 m && leb m most_cells)
+    (λ (t : (leb 1 m && leb m most_cells) ≡ true).
+    let some : Some m ≡ Some n = rw t at e in
+    let same : m ≡ n = cc in
+    omega (arith, leb-true 1 m (both (leb 1 m) (leb m most_cells) t).0))
+    (λ (t : (leb 1 m && leb m most_cells) ≡ false). let none : None ≡ Some n = rw t at e in cc)
+
 -- ---- the heads at hand
 
 pub record There (l : List ℕ) (n : ℕ) : Type 0 where
@@ -127,3 +138,9 @@ module _ (l more : List ℕ) where
   pub opens-said : (ended : Bool) → NoMore ended more → ((opens ended begun l).next ≡ Wait → ⊥) → in_all (opens ended begun l) l more ≡ report (l ++ more)
   opens-said ended none goes =
       by_some (heads_there l) (λ (e : heads_there l ≡ None). refused-said ended none e goes) (λ (n : ℕ) (e : heads_there l ≡ Some n). heads-said ended n e)
+
+pub at_least : (l : List ℕ) (n : ℕ) → heads_there l ≡ Some n → 1 ≤ n
+at_least l n e = named-least l n (there l n e).named
+
+pub within : (l : List ℕ) (n : ℕ) → heads_there l ≡ Some n → heads_end n ≤ length l
+within l n e = (there l n e).within
