@@ -100,6 +100,11 @@ pub decimal-printed : (n : ℕ) → n < 2 ^ 32 → std_decimal n ≡ decimal n
 unfolding decimal
 decimal-printed n h = sym (decimal_from_appends spelt (record { one = spelt_one; more = spelt-more }) 10 n (omega arith) (length-decimal-le 10 n (omega arith) (omega arith) (omega arith)))
 
+-- one of a digit
+pub decimal_one : (n : ℕ) → n < 10 → decimal n ≡ (48 + n) ∷ []
+unfolding decimal
+decimal_one n h = spelt_one 9 n h
+
 -- ---- one text behind another
 
 pub said_then : {out next last xs ys : List ℕ} {at mid end : ℕ} → Said out at xs next mid → Said next mid ys last end → Said out at (xs ++ ys) last end

@@ -46,6 +46,8 @@ pub struct Text<'a> {
 }
 
 impl Text<'_> {
+    ghost use Rattle.std.specs.Prelude.{[], ◌∷◌};
+    ghost use Rattle.report_lines.specs.Text.{decimal, space};
     ghost use Rattle.report_lines.specs.Told.{HasRoom, Tells};
 
     fn put(&mut self, bytes: &[u8])
@@ -57,14 +59,46 @@ impl Text<'_> {
         self.at = end;
     }
 
-    // A number of 32 bits in decimal, and what ends it.
+    // Stays: a store, since `copy_from_slice` of one byte still asks whether the two overlap: a row has three of them.
+    fn put_byte(&mut self, byte: u8)
+        requires { HasRoom self.old 1 }
+        ensures { Tells self.old (byte ∷ []) self.new }
+    {
+        self.out[self.at] = byte;
+        self.at += 1;
+    }
+
+    // Two letters and a space.
+    fn put_word(&mut self, first: u8, second: u8)
+        requires { HasRoom self.old 3 }
+        ensures { Tells self.old (first ∷ second ∷ space ∷ []) self.new }
+    {
+        self.put_byte(first);
+        self.put_byte(second);
+        self.put_byte(b' ');
+    }
+
+    // A number of 32 bits in decimal. Most counts have one digit, which is told as it is.
+    fn put_decimal(&mut self, n: u32)
+        requires { HasRoom self.old most_places }
+        ensures tells { Tells self.old (decimal n) self.new }
+        ensures room_taken { self.new.at ≤ self.old.at + most_places }
+    {
+        if n < 10 {
+            self.put_byte(b'0' + n as u8);
+            return;
+        }
+        self.put(itoa::Buffer::new().format(n).as_bytes());
+    }
+
+    // Such a number, and what ends it.
     fn put_number(&mut self, n: u32, end: u8)
         requires { HasRoom self.old (most_places + 1) }
         ensures tells { Tells self.old (number_text n end) self.new }
         ensures room_taken { self.new.at ≤ self.old.at + (most_places + 1) }
     {
-        self.put(itoa::Buffer::new().format(n).as_bytes());
-        self.put(&[end]);
+        self.put_decimal(n);
+        self.put_byte(end);
     }
 
     fn put_cell(&mut self, identity: CellIdentity)
@@ -73,7 +107,7 @@ impl Text<'_> {
         ensures room_taken { self.new.at ≤ self.old.at + (hex_places + 1) }
     {
         self.put(&hex(identity.0));
-        self.put(b" ");
+        self.put_byte(b' ');
     }
 
     pub fn put_no(&mut self, number: u32)
@@ -81,7 +115,7 @@ impl Text<'_> {
         ensures tells { Tells self.old (no_text number) self.new }
         ensures room_taken { self.new.at ≤ self.old.at + (most_places + 4) }
     {
-        self.put(b"no ");
+        self.put_word(b'n', b'o');
         self.put_number(number, b'\n');
     }
 
@@ -90,7 +124,7 @@ impl Text<'_> {
         ensures tells { Tells self.old (ok_text kind rows) self.new }
         ensures room_taken { self.new.at ≤ self.old.at + (most_places + most_places + 5) }
     {
-        self.put(b"ok ");
+        self.put_word(b'o', b'k');
         self.put_number(u32::from(kind), b' ');
         self.put_number(rows, b'\n');
     }

@@ -5,4 +5,4 @@ use Rattle.report_lines.proofs.text.Text.put_cell.Goals as goal
 
 pub returns-clause-tells : goal.returns-clause-tells
 unfolding cell_text
-returns-clause-tells c = tells_then (rw c.hex.ensures at c.put.ensures) c.put-2.ensures
+returns-clause-tells c = tells_then (rw c.hex.ensures at c.put.ensures) c.put_byte.ensures

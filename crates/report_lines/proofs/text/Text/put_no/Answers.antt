@@ -5,4 +5,4 @@ use Rattle.report_lines.proofs.text.Text.put_no.Goals as goal
 
 pub returns-clause-tells : goal.returns-clause-tells
 unfolding no_text
-returns-clause-tells c = tells_then c.put.ensures c.put_number.ensures.tells
+returns-clause-tells c = tells_then c.put_word.ensures c.put_number.ensures.tells

@@ -6,4 +6,4 @@ use Rattle.report_lines.proofs.text.Text.put_ok.Goals as goal
 pub returns-clause-tells : goal.returns-clause-tells
 unfolding ok_text
 returns-clause-tells c =
-    tells_then c.put.ensures (tells_then (rw c.from.ensures at c.put_number.ensures.tells) c.put_number-2.ensures.tells)
+    tells_then c.put_word.ensures (tells_then (rw c.from.ensures at c.put_number.ensures.tells) c.put_number-2.ensures.tells)
