@@ -35,7 +35,7 @@ target/emulated/report: target/bin/report
 # The host's programs. The tests are built with sanitizers; libpws.a itself is not instrumented.
 HOST_TESTS = samples wrapper rules edges segments periods conversion wire wire_encoding wire_elements responses wrong_answers
 HOST_EXAMPLES = two_yards answer_on_wire cancel_from_wire response_from_wire
-HOST_SCRIPTS = example kept_messages compilers readme install ctest
+HOST_SCRIPTS = example kept_messages compilers readme install names ctest
 HOST_FLAGS = -std=c++20 -Wall -Wextra -Wpedantic -Wconversion -Werror -Ihost/include
 HOST_HEADERS = $(wildcard host/include/* host/tests/*.hpp host/example/*.hpp host/wire/*.hpp)
 HOST_NEEDS = $(HOST_HEADERS) target/staticlib/libpws.a
