@@ -5,7 +5,10 @@ cd "$(dirname "$0")/../.."
 . host/tests/check.sh
 library=target/staticlib/libpws.a
 
-asks_for_nothing() { [[ -z $(nm -u "$library" | grep -w U) ]]; }
+asks_for_nothing() {
+    local names
+    names=$(nm -u "$library") && ! grep -qwE '[Uvw]' <<<"$names"
+}
 declared() { grep -oE '\bpws_[a-z_]+\(' host/include/pws.h | tr -d '(' | sort -u; }
 has_what_is_declared() { [[ $(nm -g --defined-only "$library" | awk '$2 == "T" { print $3 }' | sort) == "$(declared)" ]]; }
 
