@@ -31,13 +31,15 @@ pub copying_starts : (to : List ℕ) (at : ℕ) (from : List ℕ) → Copying to
 copying_starts to at from = record { within = omega arith; long = refl; stored = refl }
 
 module _ {to₀ : List ℕ} {at : ℕ} {from to : List ℕ} {i : ℕ} (g : Copying to₀ at from to i) where
-  pub copying_goes : i + 16 ≤ length from → (to' : List ℕ) → to' ≡ sets to (at + i) (gets from i 16) → Copying to₀ at from to' (i + 16)
-  copying_goes more to' e =
+  -- a turn stores the next sixteen where the first i end: by equations, so that an index may be spelled in another way
+  pub copying_goes : i + 16 ≤ length from → (to' : List ℕ) → {a j : ℕ} → to' ≡ sets to a (gets from j 16) → a ≡ at + i → j ≡ i → Copying to₀ at from to' (i + 16)
+  copying_goes more to' {a} {j} e where_to where_from =
       let seam : at + i ≡ at + length (take i from) = ap (λ (n : ℕ). at + n) (sym (length-take-le i from g.within)) in
+      let next : to' ≡ sets to (at + i) (gets from i 16) = rw (e, where_to, where_from) in
       record {
         within = more;
-        long = ap length e ∙ length-sets to (at + i) (gets from i 16) ∙ g.long;
-        stored = e ∙ ap (λ (l : List ℕ). sets l (at + i) (gets from i 16)) g.stored ∙ sets-run (take i from) (gets from i 16) to₀ at (at + i) seam
+        long = ap length next ∙ length-sets to (at + i) (gets from i 16) ∙ g.long;
+        stored = next ∙ ap (λ (l : List ℕ). sets l (at + i) (gets from i 16)) g.stored ∙ sets-run (take i from) (gets from i 16) to₀ at (at + i) seam
             ∙ ap (λ (b : List ℕ). sets to₀ at (take i from ++ b)) (gets_eq 16 from i more) ∙ ap (sets to₀ at) (sym (take-add i 16 from));
       }
 

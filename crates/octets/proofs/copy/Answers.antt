@@ -12,7 +12,7 @@ loop-k-init c = copying_starts c.args.to.now c.args.at c.args.from.now
 pub loop-k-preserved : goal.loop-k-preserved
 loop-k-preserved c =
     let next : 16 * (c.loop-k.k + 1) ≡ 16 * c.loop-k.k + 16 = omega arith in
-    rw next (copying_goes c.loop-k.invariant (omega arith) _ c.copy16.ensures)
+    rw next (copying_goes c.loop-k.invariant (omega arith) _ c.copy16.ensures (omega arith) (omega arith))
 
 pub returns : goal.returns
 returns c = copying_ends c.loop-k.invariant _ (omega arith) (omega arith) _ c.copy16-2.ensures
