@@ -6,6 +6,7 @@ use mathlib.Core.List.{List, [], ◌∷◌, flat_map, append-nil}
 use Prim.Native.Nat.{ℕ, zero, suc, ◌+◌, ◌-◌, ◌*◌, ◌≤◌, ◌<◌}
 use native.Mathlib.Omega.{arith}
 use lib.Dec.{leb}
+use Rattle.std.proofs.lemmas.Bool.{le-leb, lt-leb, leb-true, leb-false}
 use Rattle.std.specs.Bool.{MatchBool}
 use Rattle.std.specs.List.{range_with_len, AllWithin, HoldsAt}
 use borrow.Rule.Slice.PartMut.{put_mid}
@@ -19,6 +20,7 @@ use Rattle.octets.proofs.PiecesLaws.{pieces-next, pieces_none}
 use Rattle.rules.specs.Lists.{every}
 use Rattle.rules.specs.Layout.{version1, current, period_in_place, place_fields, place_size, places_per_cell, head_size, cell_size}
 use Rattle.rules.specs.Table.{place_runs}
+use Rattle.rules.proofs.TestLaws.{by_test}
 use Rattle.table_convert.specs.Wide.{wide_place, wide_places, wide_cell, short_period, short_periods}
 use Rattle.table_convert.proofs.WideLaws.{length-wide}
 use Rattle.table_convert.proofs.WideCellLaws.{length-wide_places}
@@ -80,16 +82,22 @@ cell_widened wide cell room long {a} {z} p q =
 
 -- ---- the periods
 
--- what the code asks of place k
+-- whether the period of place k is short
 abbrev pub short_at : List ℕ → ℕ → Bool
-short_at cell k = leb (be (gets cell (24 + 20 * k + 8) 2)) 4095
+short_at cell k = short_period (gets cell (24 + 20 * k) 20)
+
+-- a test of the number that is read there says it, if it has the same two bounds: so the test may be spelled in another way
+pub short-read : (cell : List ℕ) (k a b : ℕ) → (a ≤ b → be (gets cell (24 + 20 * k + 8) 2) ≤ 4095) → (b < a → 4095 < be (gets cell (24 + 20 * k + 8) 2)) → leb a b ≡ short_at cell k
+unfolding short_period
+short-read cell k a b low high =
+    let place = gets cell (24 + 20 * k) 20 in
+    let period : be (gets cell (24 + 20 * k + 8) 2) ≡ field_of (place_fields version1) period_in_place place
+    = sym (ap be (gets-gets 2 20 cell (24 + 20 * k) 8 (omega arith))) ∙ period-at place (length-gets 20 cell (24 + 20 * k)) in
+    rw (← period) (by_test (leb a b) (λ t. t ∙ sym (le-leb _ 4095 (low (leb-true a b t)))) (λ f. f ∙ sym (lt-leb _ 4095 (high (leb-false a b f)))))
 
 pub each-period : (cell : List ℕ) → length cell ≡ cell_size version1 → short_at cell 0 && short_at cell 1 && short_at cell 2 && short_at cell 3 ≡ short_periods cell
-unfolding short_periods short_period every
-each-period cell long =
-    let at : (i : ℕ) → field_of (place_fields version1) period_in_place (gets cell i (place_size version1)) ≡ be (gets cell (i + 8) 2) =
-    λ i. sym (period-at (gets cell i (place_size version1)) (length-gets (place_size version1) cell i)) ∙ ap be (gets-gets 2 (place_size version1) cell i 8 (omega arith)) in
-    rw (four-places cell long, at 24, at 44, at 64, at 84) (simp (and-true, and_assoc))
+unfolding short_periods every
+each-period cell long = rw (four-places cell long) (simp (and-true, and_assoc))
 
 pub periods : (cell : List ℕ) → length cell ≡ cell_size version1 → (r : Bool) → MatchBool r (AllWithin (λ k. short_at cell k ≡ true) (range_with_len 0 4) 0 4) ((k : ℕ) × (k < 4) × HoldsAt (λ k. short_at cell k ≡ false) (range_with_len 0 4) k)
     → r ≡ short_periods cell

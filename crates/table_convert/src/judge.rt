@@ -1,9 +1,10 @@
 // The judge of a table of an older version, which is version 1. A cell's places are widened and asked the current rules; of version 1's own only its longest period is left to ask.
-ghost use Rattle.std.specs.Prelude.{◌≡◌, length};
-ghost use Rattle.rules.specs.Layout.{version1, cell_size};
+ghost use Rattle.std.specs.Prelude.{◌≡◌, ◌+◌, ◌*◌, ◌<◌, length};
+ghost use Rattle.octets.specs.Runs.{gets};
+ghost use Rattle.rules.specs.Layout.{version1, cell_size, head_size, place_size, places_per_cell};
 ghost use Rattle.rules.specs.Table.{legal_cell};
 ghost use Rattle.rules.specs.Refusals.{older_verdict};
-ghost use Rattle.table_convert.specs.Wide.{short_periods};
+ghost use Rattle.table_convert.specs.Wide.{short_period, short_periods};
 
 use crate::wide::widen_places;
 use octets::get;
@@ -46,5 +47,13 @@ fn periods_short(cell: &[u8]) -> bool
     requires { length cell.now ≡ cell_size version1 }
     ensures { result ≡ short_periods cell.now }
 {
-    (0..PLACES).all(|k| get::<u16>(cell, HEAD + PLACE_1 * k + PERIOD_AT) as u32 <= LONGEST_PERIOD_1)
+    (0..PLACES).all(|k| period_short(cell, k))
+}
+
+// Whether the period of place k is short: a function, so that its promise is shown of the number that is read.
+fn period_short(cell: &[u8], k: usize) -> bool
+    requires { (length cell.now ≡ cell_size version1) × (k < places_per_cell) }
+    ensures { result ≡ short_period (gets cell.now (head_size version1 + place_size version1 * k) (place_size version1)) }
+{
+    get::<u16>(cell, HEAD + PLACE_1 * k + PERIOD_AT) as u32 <= LONGEST_PERIOD_1
 }
