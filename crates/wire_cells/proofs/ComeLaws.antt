@@ -140,6 +140,7 @@ module _ (m : Message) (stored : Row → List ℕ) (size from : ℕ) (sized : (w
       pub coming_entry : OwnEntry m l at
       coming_entry = come_entry (w.to_come some) some
 
-      pub coming_next : (c : Cell) → CellAt m l at c → (after : List ℕ) → after ≡ sets buffer out (stored (row_said c)) → {later : ℕ} → later ≡ left - 1
-          → Coming before l after later c.end (out + size)
-      coming_next c cell after put less = rw less (come_whole (come_next (w.to_come some) some c cell after put))
+      -- stored where the rows so far end: an equation, so that the index may be spelled in another way
+      pub coming_next : (c : Cell) → CellAt m l at c → (after : List ℕ) → {i : ℕ} → after ≡ sets buffer i (stored (row_said c)) → i ≡ out
+          → {later : ℕ} → later ≡ left - 1 → Coming before l after later c.end (out + size)
+      coming_next c cell after put where_to less = rw less (come_whole (come_next (w.to_come some) some c cell after (rw where_to at put)))

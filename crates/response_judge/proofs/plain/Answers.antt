@@ -1,16 +1,15 @@
 -- `plain` says what was met in a response that is a transaction identifier alone, or it and a plain list: both ways are laws of `GlanceLaws`.
 use mathlib.Core.Path.{◌∙◌}
 use native.Mathlib.Omega.{arith}
-use borrow.Author.Tests.{eqb-true}
-use Rattle.rules.proofs.TestLaws.{both}
+use borrow.Author.Tests.{tests}
+use Rattle.std.proofs.Common.{rules}
 use Rattle.response_judge.proofs.GlanceLaws.{identifier-alone, list-alone}
 use Rattle.response_judge.proofs.plain.Goals as goal
 
 pub returns-then-elements-s : goal.returns-then-elements-s
 returns-then-elements-s c =
-    let two = both _ _ c.if-elements-s.true in
     rw c.alone.ensures
-    (identifier-alone _ _ c.if-not-fronted.ensures _ c.get-number.ensures _ c.get-elements.ensures (eqb-true _ 1 two.0) (eqb-true _ 9 two.1))
+    (identifier-alone _ _ c.if-not-fronted.ensures _ c.get-number.ensures _ c.get-elements.ensures (search (rules, tests)) (search (rules, tests)))
 
 pub returns : goal.returns
 returns c =

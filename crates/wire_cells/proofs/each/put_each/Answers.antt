@@ -16,7 +16,7 @@ cell_at-cell-requires g c = coming_entry _ _ _ _ g.met.F.Form.sized _ _ c.loop.i
 pub loop-preserved : goal.loop-preserved
 loop-preserved g c =
     rw c.SIZE-to.ensures
-    (coming_next _ _ _ _ g.met.F.Form.sized _ _ c.loop.invariant (omega arith) _ c.cell_at-cell.ensures _ c.put.ensures (omega arith))
+    (coming_next _ _ _ _ g.met.F.Form.sized _ _ c.loop.invariant (omega arith) _ c.cell_at-cell.ensures _ c.put.ensures (omega arith) (omega arith))
 
 pub returns : goal.returns
 returns g c = c.loop.invariant.done (omega arith)
