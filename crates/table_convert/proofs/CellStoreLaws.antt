@@ -18,7 +18,7 @@ use Rattle.octets.specs.Fields.{field_of}
 use Rattle.octets.proofs.RunsLaws.{length-gets, gets-gets, sets-run, sets_front}
 use Rattle.octets.proofs.PiecesLaws.{pieces-next, pieces_none}
 use Rattle.rules.specs.Lists.{every}
-use Rattle.rules.specs.Layout.{version1, current, period_in_place, place_fields, place_size, places_per_cell, head_size, cell_size}
+use Rattle.rules.specs.Layout.{version1, current, period_in_place, place_fields, place_size, places_per_cell, head_size, cell_size, longest_period}
 use Rattle.rules.specs.Table.{place_runs}
 use Rattle.rules.proofs.TestLaws.{by_test}
 use Rattle.table_convert.specs.Wide.{wide_place, wide_places, wide_cell, short_period, short_periods}
@@ -84,16 +84,19 @@ cell_widened wide cell room long {a} {z} p q =
 
 -- whether the period of place k is short
 abbrev pub short_at : List ℕ → ℕ → Bool
-short_at cell k = short_period (gets cell (24 + 20 * k) 20)
+short_at cell k = short_period (gets cell (head_size version1 + place_size version1 * k) (place_size version1))
 
--- a test of the number that is read there says it, if it has the same two bounds: so the test may be spelled in another way
-pub short-read : (cell : List ℕ) (k a b : ℕ) → (a ≤ b → be (gets cell (24 + 20 * k + 8) 2) ≤ 4095) → (b < a → 4095 < be (gets cell (24 + 20 * k + 8) 2)) → leb a b ≡ short_at cell k
+-- what is read there, wherever the place begins
+period-read : (cell : List ℕ) (i : ℕ) → be (gets cell (i + 8) 2) ≡ field_of (place_fields version1) period_in_place (gets cell i (place_size version1))
+period-read cell i = sym (ap be (gets-gets 2 (place_size version1) cell i 8 (omega arith))) ∙ period-at (gets cell i (place_size version1)) (length-gets (place_size version1) cell i)
+
+-- a test says it that holds within the limit and fails above it: by two bounds, so that the test may be spelled in another way
+pub short-read : (cell : List ℕ) (k : ℕ) {a b : ℕ} → let period = be (gets cell (head_size version1 + place_size version1 * k + 8) 2) in
+    (a ≤ b → period ≤ (longest_period version1).0) → (b < a → (longest_period version1).0 < period) → leb a b ≡ short_at cell k
 unfolding short_period
-short-read cell k a b low high =
-    let place = gets cell (24 + 20 * k) 20 in
-    let period : be (gets cell (24 + 20 * k + 8) 2) ≡ field_of (place_fields version1) period_in_place place
-    = sym (ap be (gets-gets 2 20 cell (24 + 20 * k) 8 (omega arith))) ∙ period-at place (length-gets 20 cell (24 + 20 * k)) in
-    rw (← period) (by_test (leb a b) (λ t. t ∙ sym (le-leb _ 4095 (low (leb-true a b t)))) (λ f. f ∙ sym (lt-leb _ 4095 (high (leb-false a b f)))))
+short-read cell k {a} {b} low high =
+    rw (← period-read cell (head_size version1 + place_size version1 * k))
+    (by_test (leb a b) (λ t. t ∙ sym (le-leb _ (longest_period version1).0 (low (leb-true a b t)))) (λ f. f ∙ sym (lt-leb _ (longest_period version1).0 (high (leb-false a b f)))))
 
 pub each-period : (cell : List ℕ) → length cell ≡ cell_size version1 → short_at cell 0 && short_at cell 1 && short_at cell 2 && short_at cell 3 ≡ short_periods cell
 unfolding short_periods every

@@ -50,7 +50,7 @@ fn periods_short(cell: &[u8]) -> bool
     (0..PLACES).all(|k| period_short(cell, k))
 }
 
-// Whether the period of place k is short: a function, so that its promise is shown of the number that is read.
+// Whether the period of place k is short. A function with a promise, since of a closure's own test only its text is known.
 fn period_short(cell: &[u8], k: usize) -> bool
     requires { (length cell.now ≡ cell_size version1) × (k < places_per_cell) }
     ensures { result ≡ short_period (gets cell.now (head_size version1 + place_size version1 * k) (place_size version1)) }

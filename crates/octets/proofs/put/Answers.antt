@@ -1,6 +1,6 @@
 -- `put` stores the bytes of the number at the index, and nothing else.
--- They are written over a part of the slice: `put_mid-sets`. By `grind`, to which another spelling of the index is the same, and so is
--- what writes over no bytes: `put_none`.
+-- They are written over a part of the slice: `put_mid-sets`. By `grind`, so that the index may be spelled in another way; `put_none` has it
+-- prove the form of put32_one_byte_late where nothing is late.
 use native.Mathlib.Omega.{arith}
 use Rattle.octets.proofs.NumbersLaws.{length-to_be}
 use Rattle.octets.proofs.RunsLaws.{put_mid-sets, put_none}

@@ -1,4 +1,4 @@
--- `settle` moves bytes to the front of their buffer. By `grind`, to which an index spelled in another way is the same.
+-- `settle` moves bytes to the front of their buffer. By `grind`, so that the indices may be spelled in another way.
 use native.Mathlib.Omega.{arith}
 use Rattle.report_lines.proofs.FrameLaws.{moved}
 use Rattle.report_lines.proofs.frame.settle.Goals as goal

@@ -5,4 +5,4 @@ use Rattle.table_convert.proofs.CellStoreLaws.{short-read}
 use Rattle.table_convert.proofs.judge.period_short.Goals as goal
 
 pub returns : goal.returns
-returns c = short-read c.args.cell.now c.args.k _ _ (λ low. grind (arith, low, c.get.ensures)) (λ high. grind (arith, high, c.get.ensures))
+returns c = short-read c.args.cell.now c.args.k (λ low. grind (arith, low, c.get.ensures)) (λ high. grind (arith, high, c.get.ensures))
